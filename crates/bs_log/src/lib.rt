@@ -1,0 +1,12 @@
+//! Histories of chares, the log that an emulation writes, and the outcome of a run, as plain data.
+//!
+//! `docs/model.md` says what a block, a cause, a path, a depth and a message are.
+#![tactic(auto)]
+
+mod history;
+mod log;
+mod outcome;
+
+pub use history::{Asked, Block, History, Key, Message, Origin, Sent, TrapAt, TrapKind, WaitAt};
+pub use log::{Log, MailRef, Row, TrapRow, WaitRow};
+pub use outcome::{End, OutRow, Outcome};
