@@ -1,0 +1,11 @@
+//! The small form of program that `model` takes so far: two chares that send to one another. It is
+//! read from the tokens of a text, and run on a machine.
+//!
+//! `docs/program-text.md` says what the small form is.
+#![tactic(auto)]
+
+mod form;
+mod model;
+mod reader;
+
+pub use form::{Given, Small, SmallAct};

@@ -1,0 +1,1 @@
+// Runs a program of the small form on a machine.

@@ -1,0 +1,1 @@
+// Reads a program of the small form from tokens.
