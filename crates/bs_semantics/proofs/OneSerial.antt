@@ -14,7 +14,7 @@ not_both_less a b l m = let e = nat_list_cmp_total.antisymm a b in cc
 
 module _ (p : Program) (limit : ℕ) (m : Machine) where
   -- no two blocks come before one another
-  not_both : (bs : List Started) (c d : ℕ) (x y : Block) → Earlier m bs c x d y → Earlier m bs d y c x → ⊥
+  pub not_both : (bs : List Started) (c d : ℕ) (x y : Block) → Earlier m bs c x d y → Earlier m bs d y c x → ⊥
   not_both bs c d x y (inl l) (inl k) = omega (arith, l, k)
   not_both bs c d x y (inl l) (inr k) = omega (arith, l, k.0)
   not_both bs c d x y (inr l) (inl k) = omega (arith, l.0, k)

@@ -1,2 +1,5 @@
 pub mod Form
 pub mod Spelled
+pub mod Blocks
+pub mod Machine
+pub mod Times
