@@ -1,5 +1,6 @@
 // Runs a program of the small form on a machine.
-ghost use Rattle.std.specs.Prelude.{◌≡◌, ◌≤◌, ◌+◌, ◌*◌, ◌^◌, ℕ, List as PlainList, IfOk, IfSome, None, Some, length};
+ghost use Rattle.std.specs.Prelude.{◌≡◌, ◌∷◌, [], ◌≤◌, ◌+◌, ◌*◌, ◌^◌, ℕ, List as PlainList, IfOk, IfSome, None, Some, length};
+ghost use Rattle.bs_report.specs.Report.{IsReportable, IsTimed};
 ghost use Rattle.bs_semantics.specs.Serial.{IsSerial, timed};
 ghost use Rattle.bs_small.specs.Form.{IsSmall, program_of};
 ghost use Rattle.bs_small.specs.Machine.{machine_of};
@@ -30,7 +31,8 @@ pub struct Starts {
 /// whatever the two names of the program are. Only memory can be wanting.
 pub fn run(alloc: Global, small: &Small, machine: &Flat) -> Result<Outcome, AllocError>
     requires { IsSmall small.now }
-    ensures { IfOk result (λ o. (x e : PlainList ℕ) → IsSerial (program_of x e small.now) 262144 (machine_of machine.now) (timed o)) }
+    ensures reportable { IfOk result IsReportable }
+    ensures serial { IfOk result (λ o. (x e : PlainList ℕ) → IsSerial (program_of x e small.now) 262144 (machine_of machine.now) (timed o)) }
 {
     outcome(alloc, small, machine)
 }
@@ -38,7 +40,8 @@ pub fn run(alloc: Global, small: &Small, machine: &Flat) -> Result<Outcome, Allo
 fn outcome(alloc: Global, small: &Small, machine: &Flat) -> Result<Outcome, AllocError>
     requires first { length small.now.first ≤ 100 }
     requires second { length small.now.second ≤ 100 }
-    ensures { IfOk result (λ o. o ≡ outcome_of (machine_of machine.now) small.now) }
+    ensures value { IfOk result (λ o. o ≡ outcome_of (machine_of machine.now) small.now) }
+    ensures reportable { IfOk result IsReportable }
 {
     match find_sending(small.first.as_slice(), small.reference) {
         None => waiting(alloc, small, machine),
@@ -49,7 +52,8 @@ fn outcome(alloc: Global, small: &Small, machine: &Flat) -> Result<Outcome, Allo
 // Both chares wait behind their first blocks.
 fn waiting(alloc: Global, small: &Small, machine: &Flat) -> Result<Outcome, AllocError>
     requires { length small.now.first ≤ 100 }
-    ensures { IfOk result (λ o. o ≡ outcome_if (machine_of machine.now) small.now None) }
+    ensures value { IfOk result (λ o. o ≡ outcome_if (machine_of machine.now) small.now None) }
+    ensures reportable { IfOk result IsReportable }
 {
     let first = first_starts(small, machine);
     let mut rows = List::new(alloc);
@@ -75,22 +79,43 @@ fn settled(
     requires first { length small.now.first ≤ 100 }
     requires second { length small.now.second ≤ 100 }
     requires early { sent.now.offset ≤ 2 ^ 40 }
-    ensures { IfOk result (λ o. o ≡ outcome_if (machine_of machine.now) small.now (Some sent.now)) }
+    ensures value { IfOk result (λ o. o ≡ outcome_if (machine_of machine.now) small.now (Some sent.now)) }
+    ensures reportable { IfOk result IsReportable }
 {
     let first = first_starts(small, machine);
     let second = second_starts(small, machine, sent);
     let of_zero = given(sent.argument, 0, 0);
     let of_one = given(sent.argument, 1, 0);
-    let mut rows = List::new(alloc);
-    rows.push(first_row(alloc, small, machine, 0, first.zero)?)?;
-    rows.push(second_row(alloc, small, machine, 0, of_one, second.zero)?)?;
-    rows.push(first_row(alloc, small, machine, 1, first.one)?)?;
-    rows.push(second_row(alloc, small, machine, 1, of_zero, second.one)?)?;
+    let rows = in_order(
+        alloc,
+        first_row(alloc, small, machine, 0, first.zero)?,
+        second_row(alloc, small, machine, 0, of_one, second.zero)?,
+        first_row(alloc, small, machine, 1, first.one)?,
+        second_row(alloc, small, machine, 1, of_zero, second.one)?,
+    )?;
     Ok(Outcome {
         rows,
         traps: List::new(alloc),
         waits: List::new(alloc),
     })
+}
+
+// Both rows of chare 0, and then those of chare 1.
+fn in_order(
+    alloc: Global,
+    first: OutRow,
+    second: OutRow,
+    third: OutRow,
+    fourth: OutRow,
+) -> Result<List<OutRow>, AllocError>
+    ensures { IfOk result (λ rows. rows ≡ first ∷ second ∷ third ∷ fourth ∷ []) }
+{
+    let mut rows = List::new(alloc);
+    rows.push(first)?;
+    rows.push(second)?;
+    rows.push(third)?;
+    rows.push(fourth)?;
+    Ok(rows)
 }
 
 // ---- when blocks start
@@ -100,6 +125,7 @@ ghost use Rattle.bs_small.specs.Times.{first_time as first_time_of, ready_one, r
 fn first_time(small: &Small, machine: &Flat) -> u64
     requires { length small.now.first ≤ 100 }
     ensures value { result ≡ first_time_of (machine_of machine.now) small.now }
+    ensures least { 1 ≤ result }
     ensures most { result ≤ 2 ^ 40 }
 {
     machine.duration(cost(small.first.as_slice()))
@@ -108,6 +134,7 @@ fn first_time(small: &Small, machine: &Flat) -> u64
 fn second_time(small: &Small, machine: &Flat) -> u64
     requires { length small.now.second ≤ 100 }
     ensures value { result ≡ second_time_of (machine_of machine.now) small.now }
+    ensures least { 1 ≤ result }
     ensures most { result ≤ 2 ^ 40 }
 {
     machine.duration(cost(small.second.as_slice()))
@@ -192,7 +219,8 @@ fn first_row(
 ) -> Result<OutRow, AllocError>
     requires few { length small.now.first ≤ 100 }
     requires early { start ≤ 2 ^ 44 }
-    ensures { IfOk result (λ row. row ≡ first_row_of (machine_of machine.now) small.now chare start) }
+    ensures value { IfOk result (λ row. row ≡ first_row_of (machine_of machine.now) small.now chare start) }
+    ensures timed { IfOk result IsTimed }
 {
     Ok(OutRow {
         chare,
@@ -214,7 +242,8 @@ fn second_row(
 ) -> Result<OutRow, AllocError>
     requires few { length small.now.second ≤ 100 }
     requires early { start ≤ 2 ^ 44 }
-    ensures { IfOk result (λ row. row ≡ second_row_of (machine_of machine.now) small.now chare variable start) }
+    ensures value { IfOk result (λ row. row ≡ second_row_of (machine_of machine.now) small.now chare variable start) }
+    ensures timed { IfOk result IsTimed }
 {
     Ok(OutRow {
         chare,
@@ -256,6 +285,7 @@ fn given(given: Given, chare: u32, variable: i64) -> i64
 fn cost(acts: &[SmallAct]) -> u64
     requires { length acts.now ≤ 100 }
     ensures value { result ≡ cost_after 1 acts.now }
+    ensures least { 1 ≤ result }
     ensures most { result ≤ 1 + 100 * 2 ^ 32 }
 {
     let mut cost = 1;

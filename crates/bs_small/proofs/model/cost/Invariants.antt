@@ -5,5 +5,6 @@ use Rattle.bs_small.proofs.model.cost.Given as goal
 abbrev pub invariant-loop-act : goal.invariant-loop-act
 invariant-loop-act l = record {
   so_far : cost_after l.cost (drop l.act-index l.acts) ≡ cost_after 1 l.acts;
+  least : 1 ≤ l.cost;
   most : l.cost ≤ 1 + l.act-index * 2 ^ 32;
 }

@@ -11,9 +11,9 @@ if_ok : {T E : Type 0} (r : Result T E) (P Q : T → Type 0) → ((t : T) → P 
 if_ok (Ok t) P Q f h = f t h
 if_ok (Err e) P Q f h = tt
 
-pub returns : goal.returns
-returns c =
+pub returns-clause-serial : goal.returns-clause-serial
+returns-clause-serial c =
     let s = c.args.small.now in
     let m = machine_of c.args.machine.now in
     let room : 2000 ≤ 262144 = omega arith in
-    if_ok c.outcome.result (λ o. o ≡ outcome_of m s) _ (λ o is x e. subst (λ k. IsSerial (program_of x e s) 262144 m (timed k)) (sym is) (serial_is x e s c.requires 262144 room m)) c.outcome.ensures
+    if_ok c.outcome.result (λ o. o ≡ outcome_of m s) _ (λ o is x e. subst (λ k. IsSerial (program_of x e s) 262144 m (timed k)) (sym is) (serial_is x e s c.requires 262144 room m)) c.outcome.ensures.value

@@ -1,0 +1,71 @@
+-- What performing a command does to the outside (docs/promises.md).
+use Rattle.std.specs.Prelude.{◌≡◌, ◌≤◌, ◌+◌, ◌⊎◌, ℕ, true, false, IsTrue, List, length, take, Option, Some, None, IsSome, IfSome}
+use Rattle.bs_desk.specs.declared.desk.Port.{Port}
+use Rattle.bs_desk.specs.Outside.{Outside, Files, Rose, written}
+use Rattle.bs_top.specs.declared.status.Status.{Status}
+use Rattle.bs_top.specs.declared.status.Status.TheVariants as status
+use Rattle.bs_top.specs.Words.{Asked}
+use Rattle.bs_top.specs.Answer.{Answer, IsAnswer, program_limit}
+
+-- all but what reading and refusals change
+abbrev pub Keeps : Outside → Outside → Type 0
+Keeps old new = new ≡ record old { rest = new.rest; is_open = new.is_open; found = new.found; taken = new.taken; read_faults = new.read_faults; write_faults = new.write_faults }
+
+-- the file of the program was found and read whole
+pub record ReadsWhole (asked : Option Asked) (new : Outside) : Type 0 where
+  pub command : IsSome asked
+  pub found : new.found ≡ true
+  pub taken : new.taken ≤ program_limit
+
+-- more than the limit was read
+pub record ReadsTooMuch (asked : Option Asked) (new : Outside) : Type 0 where
+  pub command : IsSome asked
+  pub found : new.found ≡ true
+  pub taken : new.taken ≡ program_limit + 1
+
+-- `open` answered false
+pub record FindsNoFile (asked : Option Asked) (new : Outside) : Type 0 where
+  pub command : IsSome asked
+  pub found : new.found ≡ false
+  pub taken : new.taken ≡ 0
+
+-- a call that reads was refused: the count of read faults rose
+pub record FailsToRead (asked : Option Asked) (old new : Outside) : Type 0 where
+  pub command : IsSome asked
+  pub can_fail : IsTrue old.can_fail
+  pub rose : Rose old.read_faults new.read_faults
+
+-- a call that writes was refused: the count of write faults rose
+pub record FailsToWrite (old new : Outside) : Type 0 where
+  pub can_fail : IsTrue old.can_fail
+  pub rose : Rose old.write_faults new.write_faults
+
+-- why a status comes, over every desk
+abbrev pub Cause : Option Asked → Outside → Outside → Status → Type 0
+Cause asked old new status.Settled = ReadsWhole asked new
+Cause asked old new status.Deadlock = ReadsWhole asked new
+Cause asked old new status.Trapped = ReadsWhole asked new
+Cause asked old new status.BadWords = asked ≡ None
+Cause asked old new status.BadProgram = ReadsWhole asked new
+Cause asked old new status.TooBig = ReadsTooMuch asked new
+Cause asked old new status.ReadFault = FailsToRead asked old new
+Cause asked old new status.WriteFault = FailsToWrite old new
+Cause asked old new status.NoFile = FindsNoFile asked new
+Cause asked old new status.Memory = Unit {0}
+
+-- a front of the answer's text was written, and all else is as before
+pub record WritesFront (a : Answer) (old new : Outside) : Type 0 where
+  pub count : ℕ
+  pub within : count ≤ length a.text
+  pub kept : Keeps (written a.port (take count a.text) old) new
+
+-- the answer's status, and its whole text
+pub record WritesAnswer (a : Answer) (s : Status) (old new : Outside) : Type 0 where
+  pub status : s ≡ a.status
+  pub kept : Keeps (written a.port a.text old) new
+
+abbrev pub Answers : Files → Option Asked → Outside → Outside → Status → Type 0
+Answers files asked old new status.ReadFault = Keeps old new
+Answers files asked old new status.WriteFault = (a : Answer) × IsAnswer files asked a × WritesFront a old new
+Answers files asked old new status.Memory = Keeps old new ⊎ ((a : Answer) × IsAnswer files asked a × WritesFront a old new)
+Answers files asked old new s = (a : Answer) × IsAnswer files asked a × WritesAnswer a s old new

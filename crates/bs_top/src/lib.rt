@@ -1,0 +1,14 @@
+//! The one call that does what the words of a command line ask for, over any desk.
+//!
+//! `docs/promises.md` says what it promises, `docs/output.md` what is written.
+#![tactic(auto)]
+
+mod perform;
+mod status;
+mod words;
+
+pub use perform::perform_alone;
+pub use status::Status;
+
+#[cfg(test)]
+mod tests;

@@ -1,0 +1,48 @@
+// How a command ends.
+ghost use Rattle.std.specs.Prelude.{◌≡◌};
+ghost use Rattle.bs_top.specs.Codes.{code_of};
+
+/// How a command ends, each with its exit code.
+#[derive(Clone, Copy, Debug, PartialEq, Eq, Drop)]
+pub enum Status {
+    /// The run came to its end, and nobody waits (0).
+    Settled,
+    /// The run came to its end, and somebody waits (3).
+    Deadlock,
+    /// A statement stopped (4).
+    Trapped,
+    /// The words are no command (10).
+    BadWords,
+    /// The text is none of the programs that can be run (11).
+    BadProgram,
+    /// A file has more bytes than it may have (18).
+    TooBig,
+    /// A file could not be opened or read (20).
+    ReadFault,
+    /// A text could not be written whole (21).
+    WriteFault,
+    /// There is no file of that name (22).
+    NoFile,
+    /// Memory was wanting (30).
+    Memory,
+}
+
+impl Status {
+    /// The exit code of the program.
+    pub fn code(self) -> u8
+        ensures { result ≡ code_of self }
+    {
+        match self {
+            Status::Settled => 0,
+            Status::Deadlock => 3,
+            Status::Trapped => 4,
+            Status::BadWords => 10,
+            Status::BadProgram => 11,
+            Status::TooBig => 18,
+            Status::ReadFault => 20,
+            Status::WriteFault => 21,
+            Status::NoFile => 22,
+            Status::Memory => 30,
+        }
+    }
+}
