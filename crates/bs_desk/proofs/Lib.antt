@@ -1,0 +1,5 @@
+pub mod WrittenLemmas
+pub mod Parts
+pub mod VersionLemmas
+pub mod MemoryReads
+pub mod MemoryWrites

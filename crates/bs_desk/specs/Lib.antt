@@ -1,0 +1,6 @@
+pub mod Outside
+pub mod Whole
+pub mod Host
+pub mod InMemory
+pub mod Versions
+pub mod Memory
