@@ -98,7 +98,7 @@ processor_line rows processor =
     ++ codes " use " ++ decimal (10000 * busy_of processor rows / span_of rows) ++ codes "\n"
 
 -- the whole report: the end, the blocks, the traps, the waits, the span, and the processors
-abbrev pub report_text : Outcome → List ℕ
+unfoldable pub report_text : Outcome → List ℕ
 report_text outcome =
     status_line (end_of outcome)
     ++ block_lines 1 outcome.rows

@@ -1,7 +1,7 @@
 use Rattle.std.proofs.Common.{◌≡◌, ◌∙◌, ap, subst, sym, ◌++◌, string_bytes}
 use Rattle.std.specs.List.{All, flat_map}
 use Rattle.bs_report.specs.Loads.{IsShare, load_line, loads_of}
-use Rattle.bs_report.specs.Report.{status_line, block_lines, trap_line, wait_line, span_of, span_line, processor_line, processors_of}
+use Rattle.bs_report.specs.Report.{report_text, status_line, block_lines, trap_line, wait_line, span_of, span_line, processor_line, processors_of}
 use Rattle.bs_report.specs.End.{end_of}
 use Rattle.bs_report.proofs.Joined.{joined}
 use Rattle.bs_report.proofs.LoadLemmas.{loads_share, load_lines}
@@ -16,6 +16,7 @@ write_loads-requires c =
     (subst (λ entries. All (IsShare (span_of rows)) entries) (sym loads) (loads_share rows c.requires.is_small c.requires.is_timed))
 
 pub returns : goal.returns
+unfolding report_text
 returns c =
     let outcome = c.args.outcome.now in
     let rows = outcome.rows in
