@@ -1,0 +1,4 @@
+pub mod End
+pub mod Fault
+pub mod Loads
+pub mod Report

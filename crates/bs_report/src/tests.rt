@@ -1,0 +1,218 @@
+// Reports and fault lines against texts that were worked out by hand.
+ghost use Rattle.std.specs.Prelude.{IsTrue, ◌↔◌};
+ghost use Rattle.bs_report.specs.Report.{IsTimed};
+
+use crate::{Fault, end, fault_line, report};
+use bs_log::{End, Key, OutRow, Outcome, TrapKind, TrapRow, WaitRow};
+use bs_tree::List;
+use std::alloc::{AllocError, Global};
+use std::process::Abort;
+use std::test::Fail;
+
+// A block: its chare, statement and processor, its start and end, and its value, where it has one.
+#[derive(Clone, Copy, Drop)]
+struct Ran(u32, u32, u32, u128, u128, Option<i64>);
+
+fn row(alloc: Global, block: Ran) -> Result<OutRow, AllocError> {
+    let Ran(chare, stmt, processor, start, end, value) = block;
+    let mut values = List::new(alloc);
+    if let Some(value) = value {
+        values.push(value)?;
+    }
+    Ok(OutRow {
+        chare,
+        stmt,
+        processor,
+        start,
+        end,
+        values,
+    })
+}
+
+fn outcome(
+    alloc: Global,
+    blocks: &[Ran],
+    traps: &[TrapRow],
+    waits: &[WaitRow],
+) -> Result<Outcome, AllocError> {
+    let mut rows = List::new(alloc);
+    for block in blocks {
+        rows.push(row(alloc, *block)?)?;
+    }
+    Ok(Outcome {
+        rows,
+        traps: List::from_vec(traps.to_vec(alloc)?),
+        waits: List::from_vec(waits.to_vec(alloc)?),
+    })
+}
+
+fn is_timed(row: &OutRow) -> bool
+    ensures { IsTrue result ↔ IsTimed row.now }
+{
+    row.start < row.end && row.end - row.start <= 1 << 48 && row.end < 1 << 110
+}
+
+fn expect(
+    rt: &(impl Abort + AllocGlobal),
+    outcome: &Outcome,
+    ending: End,
+    want: &str,
+) -> Result<(), Fail> {
+    let rows = outcome.rows.as_slice();
+    assert!(rt; rows.len() <= 262_144 && rows.iter().all(|row| is_timed(row)));
+    assert_eq!(rt; report(rt.alloc(), outcome)?.as_slice(), want.as_bytes());
+    assert_eq!(rt; end(outcome), ending);
+    Ok(())
+}
+
+fn trap(chare: u32, stmt: u32, kind: TrapKind) -> TrapRow {
+    TrapRow { chare, stmt, kind }
+}
+
+fn wait(chare: u32, stmt: u32, entry: u32, reference: i64) -> WaitRow {
+    let key = Key { entry, reference };
+    WaitRow { chare, stmt, key }
+}
+
+#[test]
+fn one_block(rt: HostRuntime) -> Result<(), Fail> {
+    let outcome = outcome(rt.alloc(), &[Ran(0, 1, 0, 0, 1, None)], &[], &[])?;
+    let want = "status settled
+block 1 chare 0 stmt 1 proc 0 start 0 end 1
+span 1
+proc 0 blocks 1 busy 1 use 10000
+";
+    expect(&rt, &outcome, End::Settled, want)
+}
+
+#[test]
+fn an_exchange(rt: HostRuntime) -> Result<(), Fail> {
+    let blocks = [
+        Ran(0, 1, 0, 0, 4, None),
+        Ran(0, 3, 0, 9, 12, Some(1)),
+        Ran(1, 1, 1, 0, 4, None),
+        Ran(1, 3, 1, 9, 12, Some(0)),
+    ];
+    let outcome = outcome(rt.alloc(), &blocks, &[], &[])?;
+    let want = "status settled
+block 1 chare 0 stmt 1 proc 0 start 0 end 4
+block 2 chare 0 stmt 3 proc 0 start 9 end 12
+value 1
+block 3 chare 1 stmt 1 proc 1 start 0 end 4
+block 4 chare 1 stmt 3 proc 1 start 9 end 12
+value 0
+span 12
+proc 0 blocks 2 busy 7 use 5833
+proc 1 blocks 2 busy 7 use 5833
+";
+    expect(&rt, &outcome, End::Settled, want)
+}
+
+// The second processor comes first, and runs between the blocks of the other.
+#[test]
+fn processors_rise(rt: HostRuntime) -> Result<(), Fail> {
+    let blocks = [
+        Ran(0, 5, 1, 6, 16, Some(1)),
+        Ran(1, 2, 0, 0, 2, None),
+        Ran(2, 5, 1, 16, 26, Some(-2)),
+    ];
+    let outcome = outcome(rt.alloc(), &blocks, &[], &[])?;
+    let want = "status settled
+block 1 chare 0 stmt 5 proc 1 start 6 end 16
+value 1
+block 2 chare 1 stmt 2 proc 0 start 0 end 2
+block 3 chare 2 stmt 5 proc 1 start 16 end 26
+value -2
+span 26
+proc 0 blocks 1 busy 2 use 769
+proc 1 blocks 2 busy 20 use 7692
+";
+    expect(&rt, &outcome, End::Settled, want)
+}
+
+#[test]
+fn a_mutual_wait(rt: HostRuntime) -> Result<(), Fail> {
+    let outcome = outcome(rt.alloc(), &[], &[], &[wait(0, 1, 0, 0), wait(1, 1, 0, 0)])?;
+    let want = "status deadlock
+wait chare 0 stmt 1 entry 0 ref 0
+wait chare 1 stmt 1 entry 0 ref 0
+span 0
+";
+    expect(&rt, &outcome, End::Deadlock, want)
+}
+
+#[test]
+fn a_wait_for_another_reference(rt: HostRuntime) -> Result<(), Fail> {
+    let blocks = [Ran(0, 1, 0, 0, 4, None), Ran(1, 1, 1, 0, 4, None)];
+    let outcome = outcome(
+        rt.alloc(),
+        &blocks,
+        &[],
+        &[wait(0, 2, 0, 8), wait(1, 2, 0, 8)],
+    )?;
+    let want = "status deadlock
+block 1 chare 0 stmt 1 proc 0 start 0 end 4
+block 2 chare 1 stmt 1 proc 1 start 0 end 4
+wait chare 0 stmt 2 entry 0 ref 8
+wait chare 1 stmt 2 entry 0 ref 8
+span 4
+proc 0 blocks 1 busy 4 use 10000
+proc 1 blocks 1 busy 4 use 10000
+";
+    expect(&rt, &outcome, End::Deadlock, want)
+}
+
+#[test]
+fn a_trap(rt: HostRuntime) -> Result<(), Fail> {
+    let blocks = [Ran(0, 1, 0, 0, 2, None), Ran(1, 1, 1, 0, 2, None)];
+    let traps = [trap(1, 3, TrapKind::Overflow)];
+    let outcome = outcome(rt.alloc(), &blocks, &traps, &[])?;
+    let want = "status trapped
+block 1 chare 0 stmt 1 proc 0 start 0 end 2
+block 2 chare 1 stmt 1 proc 1 start 0 end 2
+trap chare 1 stmt 3 overflow
+span 2
+proc 0 blocks 1 busy 2 use 10000
+proc 1 blocks 1 busy 2 use 10000
+";
+    expect(&rt, &outcome, End::Trapped, want)
+}
+
+#[test]
+fn traps_stand_before_waits(rt: HostRuntime) -> Result<(), Fail> {
+    let traps = [
+        trap(0, 2, TrapKind::ZeroDivisor),
+        trap(1, 3, TrapKind::Index),
+        trap(2, 4, TrapKind::Target),
+        trap(3, 5, TrapKind::WorkRange),
+        trap(4, 6, TrapKind::BytesRange),
+        trap(5, 7, TrapKind::CostRange),
+        trap(6, 8, TrapKind::Steps),
+    ];
+    let outcome = outcome(rt.alloc(), &[], &traps, &[wait(7, 9, 1, -4)])?;
+    let want = "status trapped
+trap chare 0 stmt 2 divisor
+trap chare 1 stmt 3 index
+trap chare 2 stmt 4 target
+trap chare 3 stmt 5 work
+trap chare 4 stmt 6 bytes
+trap chare 5 stmt 7 cost
+trap chare 6 stmt 8 steps
+wait chare 7 stmt 9 entry 1 ref -4
+span 0
+";
+    expect(&rt, &outcome, End::Trapped, want)
+}
+
+#[test]
+fn fault_lines(rt: HostRuntime) -> Result<(), Fail> {
+    let cases = [
+        (Fault::BadWords, "bad words\n"),
+        (Fault::NotBuilt, "bad program: not built\n"),
+        (Fault::TooBig(1_048_576), "too big: limit 1048576 bytes\n"),
+    ];
+    for (fault, want) in &cases {
+        assert_eq!(rt; fault_line(rt.alloc(), fault)?.as_slice(), want.as_bytes());
+    }
+    Ok(())
+}
