@@ -1,2 +1,5 @@
 pub mod Pieces
 pub mod Steps
+pub mod Induction
+pub mod Spans
+pub mod Spelled

@@ -1,5 +1,5 @@
 -- How long the pieces of a text are.
-use Rattle.std.proofs.Common.{◌≡◌, ℕ, zero, suc, ◌+◌, ◌-◌, ◌^◌, ◌≤◌, ◌<◌, ◌==◌, Bool, true, false, not, cond, nat_eq, List, [], ◌∷◌, ◌++◌, length, take, drop, refl, sym, ap, ◌∙◌, arith, lit≤}
+use Rattle.std.proofs.Common.{◌≡◌, ℕ, ◌-◌, ◌^◌, ◌≤◌, ◌==◌, Bool, true, false, not, cond, nat_eq, List, [], ◌∷◌, ◌++◌, length, drop, refl, sym, ap, ◌∙◌, arith, lit≤}
 use Rattle.std.specs.Prelude.{find, Option, Some, None, Result, Ok, Err, take_while, codes, if◌then◌else◌}
 use Rattle.std.specs.List.{starts_with, prefix_len}
 use Rattle.std.proofs.Math.ListN.{length-append}
@@ -13,8 +13,8 @@ use Rattle.bs_tree.specs.declared.symbols.Mark.{Mark}
 use Rattle.bs_tree.specs.declared.symbols.Mark.TheVariants.{BraceLeft, BraceRight, ParenLeft, ParenRight, BracketLeft, BracketRight, Semicolon, Comma, Assign, Equal, NotEqual, Less, LessEqual, Greater, GreaterEqual, Plus, Minus, Star, Slash, Percent, Not, And, Or}
 use Rattle.bs_lex.specs.declared.piece.Piece.{Piece}
 use Rattle.bs_lex.specs.declared.piece.Piece.TheVariants.{Gap, Token as A_Token, BadNumber, BadCharacter}
-use Rattle.bs_lex.specs.Spelling.{is_blank, is_letter, is_name_byte, word_named, mark_text, mark_at, marks}
-use Rattle.bs_lex.specs.Lexed.{piece_of, name_piece, number_piece, mark_piece}
+use Rattle.bs_lex.specs.Spelling.{is_blank, is_letter, is_name_byte, mark_text, mark_at, marks}
+use Rattle.bs_lex.specs.Lexed.{piece_of, number_piece, mark_piece}
 
 -- the piece is of some bytes, and of no more than there are
 abbrev pub IsWithin : Piece → ℕ → Type 0

@@ -1,5 +1,6 @@
 // From a text to its tokens.
-ghost use Rattle.std.specs.Prelude.{◌≡◌, ◌≢◌, IfOk, IfErr, Ok, Err, ◌+◌, ◌^◌, ◌<◌};
+ghost use Rattle.std.specs.Prelude.{◌≡◌, ◌≢◌, IfOk, IfErr, Ok, Err, ◌+◌, ◌^◌, ◌<◌, length, All};
+ghost use Rattle.bs_lex.specs.Symbols.{StandsFrom, IsSpelled};
 ghost use Rattle.bs_lex.specs.Lexed.{lexed, tokens_from, token_at as token_of};
 ghost use Rattle.bs_lex.specs.declared.token.LexFault.TheVariants.{Memory};
 
@@ -24,6 +25,10 @@ impl From<AllocError> for LexFault {
 pub fn tokens(alloc: Global, text: &[u8]) -> Result<List<Token>, LexFault>
     ensures ok { IfOk result (λ tokens. lexed text.now ≡ Ok tokens) }
     ensures err { IfErr result (λ fault. fault ≢ Memory → lexed text.now ≡ Err fault) }
+
+    // Where the tokens stand, and that their bytes spell them.
+    ensures stand { IfOk result (λ tokens. StandsFrom 0 (length text.now) tokens) }
+    ensures spelled { IfOk result (λ tokens. All (IsSpelled text.now) tokens) }
 {
     if let Err(fault) = str::from_utf8(text) {
         return Err(LexFault::NotUtf8(fault.valid_up_to() as u64));
@@ -34,6 +39,8 @@ pub fn tokens(alloc: Global, text: &[u8]) -> Result<List<Token>, LexFault>
 fn tokens_of_utf8(alloc: Global, text: &[u8]) -> Result<List<Token>, LexFault>
     ensures ok { IfOk result (λ tokens. tokens_from 0 0 text.now ≡ Ok tokens) }
     ensures err { IfErr result (λ fault. fault ≢ Memory → tokens_from 0 0 text.now ≡ Err fault) }
+    ensures stand { IfOk result (λ tokens. StandsFrom 0 (length text.now) tokens) }
+    ensures spelled { IfOk result (λ tokens. All (IsSpelled text.now) tokens) }
 {
     let mut tokens = List::new(alloc);
     let mut at = 0;

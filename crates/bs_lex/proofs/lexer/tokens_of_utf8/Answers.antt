@@ -1,7 +1,9 @@
-use Rattle.std.proofs.Common.{◌≡◌, ◌+◌, ◌-◌, ◌∷◌, [], ◌++◌, drop, length, arith, sym, ap, ◌∙◌}
+use Rattle.std.proofs.Common.{◌≡◌, ◌∷◌, [], ◌++◌, drop, arith, sym, ap, ◌∙◌}
 use Rattle.std.specs.Prelude.{Ok}
 use Rattle.bs_lex.specs.declared.piece.Piece.TheVariants.{Gap, Token as A_Token, BadNumber, BadCharacter}
 use Rattle.bs_lex.specs.Lexed.{token_at, tokens_from}
+use Rattle.bs_lex.proofs.Spans.{tokens_stand}
+use Rattle.bs_lex.proofs.Spelled.{tokens_spelled}
 use Rattle.bs_lex.proofs.Steps.{step, after, after_push, ended}
 use Rattle.bs_lex.proofs.lexer.tokens_of_utf8.Goals as goal
 
@@ -52,8 +54,17 @@ returns-in-BadCharacter-clause-err c =
     let stopped = step c.args.text.now c.loop-at.at BadCharacter c.loop-at-test.true c.in-BadCharacter.ensures in
     λ _. sym c.loop-at.invariant.so_far ∙ ap (after c.loop-at.tokens) stopped.tokens
 
-pub returns-clause-ok : goal.returns-clause-ok
-returns-clause-ok c =
+all_found : (c : goal.In_ok-push) → tokens_from 0 0 c.args.text.now ≡ Ok c.push-2.new.self
+all_found c =
     let last = ended c.args.text.now c.loop-at.at c.loop-at-test.false in
     sym c.loop-at.invariant.so_far ∙ ap (after c.loop-at.tokens) last
     ∙ ap Ok (ap (λ t. c.loop-at.tokens ++ t ∷ []) (sym c.token_at-2.ensures) ∙ sym c.in_ok-push.ensures.ok)
+
+pub returns-clause-ok : goal.returns-clause-ok
+returns-clause-ok c = all_found c
+
+pub returns-clause-stand : goal.returns-clause-stand
+returns-clause-stand c = tokens_stand c.args.text.now c.push-2.new.self (all_found c)
+
+pub returns-clause-spelled : goal.returns-clause-spelled
+returns-clause-spelled c = tokens_spelled c.args.text.now c.push-2.new.self (all_found c)
