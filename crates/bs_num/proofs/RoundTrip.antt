@@ -67,6 +67,16 @@ ok_printed most text fits true false is side = plain_printed text is (grind (ari
 pub number_printed : (most : ℕ) (text : List ℕ) → most < 2 ^ 64 → IfOk (number_in most text) (λ n. decimal n ≡ text)
 number_printed most text fits = ok_printed most text fits (is_plain text) (nat_lt most (value_of text)) refl refl
 
+-- a number that is read is not above the greatest
+most_kept : (most : ℕ) (text : List ℕ) → (plain over : Bool) → nat_lt most (value_of text) ≡ over
+    → IfOk (if not plain then Err NotANumber else (if over then Err TooLarge else Ok (value_of text))) (λ n. n ≤ most)
+most_kept most text false over side = tt
+most_kept most text true true side = tt
+most_kept most text true false side = grind (arith, nat_tests)
+
+pub number_most : (most : ℕ) (text : List ℕ) → IfOk (number_in most text) (λ n. n ≤ most)
+number_most most text = most_kept most text (is_plain text) (nat_lt most (value_of text)) refl
+
 -- the number that was printed is read
 pub number_read : (most n : ℕ) → most < 2 ^ 64 → n ≤ most → number_in most (decimal n) ≡ Ok n
 number_read most n fits within =
