@@ -1,2 +1,5 @@
 pub mod Form
+pub mod Reading
+pub mod Seen
 pub mod Spelled
+pub mod Symbols

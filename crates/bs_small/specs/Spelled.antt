@@ -1,5 +1,5 @@
 -- How a program of the small form is spelled (docs/program-text.md).
-use Rattle.std.specs.Prelude.{◌≡◌, ◌≢◌, ℕ, ℤ, pos, List, [], ◌∷◌, ◌++◌, flat_map}
+use Rattle.std.specs.Prelude.{◌≡◌, ◌≢◌, ℕ, pos, List, [], ◌∷◌, ◌++◌, flat_map}
 use Rattle.bs_tree.specs.declared.symbols.Word.TheVariants as w
 use Rattle.bs_tree.specs.declared.symbols.Mark.TheVariants as m
 use Rattle.bs_tree.specs.Symbol.{Symbol, name, number, word, mark}

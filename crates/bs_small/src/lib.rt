@@ -5,7 +5,9 @@
 #![tactic(auto)]
 
 mod form;
+pub mod laws;
 mod model;
 mod reader;
 
 pub use form::{Given, Small, SmallAct};
+pub use reader::read;
