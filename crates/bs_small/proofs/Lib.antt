@@ -7,3 +7,4 @@ mod SmallChain
 mod SmallBegin
 mod SmallEnds
 mod SmallTimes
+pub mod ReadSymbols

@@ -1,5 +1,8 @@
 pub mod Form
+pub mod Reading
+pub mod Seen
 pub mod Spelled
+pub mod Symbols
 pub mod Blocks
 pub mod Machine
 pub mod Times

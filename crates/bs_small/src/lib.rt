@@ -6,9 +6,11 @@
 
 mod flat;
 mod form;
+pub mod laws;
 mod model;
 mod reader;
 
 pub use flat::Flat;
 pub use form::{Given, Small, SmallAct};
 pub use model::{Sending, Starts, run};
+pub use reader::read;
