@@ -1,9 +1,139 @@
 // Laws of the definitions. Each is a function without a body, whose contract is the law.
-ghost use Rattle.std.specs.Prelude.{◌≡◌, ℕ};
+ghost use Rattle.std.specs.Prelude.{◌≡◌, ◌≤◌, ◌<◌, ◌+◌, ℕ, List, None};
 ghost use Rattle.bs_tree.specs.declared.tree.Program.{Program};
+ghost use Rattle.bs_tree.specs.declared.tree.Stmt.{Stmt};
+ghost use Rattle.bs_log.specs.declared.history.Message.{Message};
+ghost use Rattle.bs_log.specs.declared.history.Block.{Block};
+ghost use Rattle.bs_log.specs.declared.history.History.{History};
+ghost use Rattle.bs_log.specs.Size.{size_all};
+ghost use Rattle.bs_semantics.specs.Run.{Lookup, meant, history};
+ghost use Rattle.bs_semantics.specs.Rounds.{
+  Mem,
+  Once,
+  Undecided,
+  CleanAt,
+  Closed,
+  SameMessages,
+  mail_to,
+  sent,
+  histories,
+  round,
+};
+ghost use Rattle.bs_semantics.specs.Growth.{RunGrows, HistoryGrows};
+
+/// **Growth.** Where one mail is part of another, the blocks, the keys asked and the traps of a run
+/// are among those under the larger mail, in their order and with the same contents; and a run that
+/// comes to its end is the same under both. So it is for each statement, from each state and at each
+/// path, and for the history of each chare, whose sends are then among the others too.
+///
+/// There is no premise on the program. It rests on the rule that each part of an `overlap` starts
+/// from the overlap's own variables and causes.
+pub fn growth()
+    ensures statements { (p : Program) (limit c : ℕ) (s : Stmt) → RunGrows (meant p limit c s).does }
+    ensures histories { (p : Program) (limit c : ℕ) → HistoryGrows p limit c }
+{}
+
+ghost use Rattle.bs_semantics.specs.Depth.{RunReaches, IsShallow};
+
+/// **Depth.** Where a mail is part of another, and lacks none of its messages that are less deep than
+/// some number, a run under it lacks none of the other run's blocks up to that depth; and where the
+/// other run ends with causes less deep than that, it ends in the same state.
+///
+/// There is no premise on the program.
+pub fn depth()
+    ensures { (p : Program) (limit c : ℕ) (s : Stmt) → RunReaches (meant p limit c s).does }
+{}
+
+/// **Confluence.** Histories are closed where each is that of its chare under exactly what they send,
+/// no chare is sent or asks one key twice, and their size is at most the limit. The Clean round is
+/// closed (`clean`); where histories are closed, the verdict is Clean and they are the Clean round
+/// (`closed`); so they are the Clean round of each verdict (`only`).
+///
+/// There is no premise on the program. Messages that only justify each other are in no closed set,
+/// since depth rises along causes.
+pub fn confluence()
+    ensures clean { (p : Program) (limit n : ℕ) → CleanAt p limit n → Closed p limit (round p limit n) }
+    ensures closed { (p : Program) (limit : ℕ) (hs : List History) → Closed p limit hs → (n : ℕ) × CleanAt p limit n × (hs ≡ round p limit n) }
+    ensures only { (p : Program) (limit n : ℕ) (hs : List History) → CleanAt p limit n → Closed p limit hs → hs ≡ round p limit n }
+{}
+
+/// In closed histories no block is deeper than there are blocks, since each depth below a block's own
+/// is the depth of some block; and no message is deeper than the limit.
+pub fn chains()
+    ensures blocks { (p : Program) (limit : ℕ) (hs : List History) → Closed p limit hs → IsShallow hs }
+    ensures messages { (p : Program) (limit : ℕ) (hs : List History) → Closed p limit hs → (m : Message) → Mem m (sent hs) → m.origin.depth ≤ limit }
+{}
+
+ghost use Rattle.bs_semantics.specs.Verdict.{Verdict, IsVerdict, ambiguous};
+
+/// **One verdict.** Each program and limit has a verdict (`some`), and only one (`one`). One of the
+/// rounds from 0 to the limit is decided, as each undecided round sends a new message (`soon`). A key
+/// is named as sent or asked twice exactly where one is (`named`).
+pub fn verdict()
+    ensures some { (p : Program) (limit : ℕ) → (v : Verdict) × IsVerdict p limit v }
+    ensures soon { (p : Program) (limit : ℕ) → ((m : ℕ) → m < limit + 1 → Undecided p limit m) → ⊥ }
+    ensures named { (hs : List History) → (ambiguous hs ≡ None → Once hs) × (Once hs → ambiguous hs ≡ None) }
+    ensures one { (p : Program) (limit : ℕ) (v w : Verdict) → IsVerdict p limit v → IsVerdict p limit w → v ≡ w }
+{}
+
+ghost use Rattle.bs_semantics.specs.Spending.{HasNoIdleLoop, IsUncut};
+
+/// The bound on the turns of a loop is never felt within the limit: a history whose size is at most
+/// the limit is the same under each greater limit.
+///
+/// The premise is that no loop of the program is idle, which each accepted program meets: a turn that
+/// ends has made a block, so more turns than the limit make more blocks than the limit.
+pub fn cut()
+    ensures { (p : Program) → HasNoIdleLoop p → IsUncut p }
+{}
+
+ghost use Rattle.bs_semantics.specs.Orderly.{IsOrderly, Rising};
+
+/// Every history is in order: its blocks rise by path, each rests on blocks before it and on messages
+/// of the mail and is 1 deeper than the deepest of them, and what is waited for isn't in the mail
+/// (`histories`). So blocks that rise by path are fixed by which blocks they are (`one`).
+pub fn orderly()
+    ensures histories { (p : Program) (limit c : ℕ) (mail : Lookup) → IsOrderly c mail (history p limit c mail) }
+    ensures one { (xs ys : List Block) → Rising xs → Rising ys → ((x : Block) → Mem x xs → Mem x ys) → ((x : Block) → Mem x ys → Mem x xs) → xs ≡ ys }
+{}
+
+ghost use Rattle.bs_semantics.specs.ClosedTest.{Passes};
+
+/// Closed histories pass a test that looks at them alone and not at the program's body (`passes`). And
+/// the mail that they are taken under may hold what they send in any order, and a message several
+/// times, as long as it holds nothing else (`order`).
+pub fn closed_sets()
+    ensures passes { (p : Program) (limit : ℕ) (hs : List History) → Closed p limit hs → Passes p limit hs }
+    ensures order { (p : Program) (limit : ℕ) (ms : List Message) (hs : List History) → hs ≡ histories p limit ms → Once hs → size_all hs ≤ limit → SameMessages ms (sent hs) → Closed p limit hs }
+{}
+
+ghost use Rattle.bs_semantics.specs.Serial.{Started, histories_at, IsClean};
+ghost use Rattle.bs_semantics.specs.Starting.{AreBlocks, NoneEnabled, AllIn, IsWithinRound};
+
+/// Blocks are started in any order, each once its block causes are. Where they are blocks of the
+/// histories under what they sent, these histories are clean and no further block can be started, the
+/// histories are closed (`stuck`). And under any messages of the Clean round the histories are within
+/// that round, so they aren't too long, and nothing is sent or asked twice (`within`).
+pub fn starting()
+    ensures stuck { (p : Program) (limit : ℕ) (bs : List Started) → AreBlocks p limit bs → NoneEnabled p limit bs → IsClean p limit bs → Closed p limit (histories_at p limit bs) }
+    ensures within { (p : Program) (limit n : ℕ) (ms : List Message) → CleanAt p limit n → AllIn ms (sent (round p limit n)) → IsWithinRound p limit n ms }
+{}
+
 ghost use Rattle.bs_semantics.specs.Serial.{IsSerial, Machine, Simulated};
 
 /// The serial machine model gives one answer for a program, a limit and a machine.
 pub fn one_serial()
     ensures { (p : Program) (limit : ℕ) (m : Machine) (r s : Simulated) → IsSerial p limit m r → IsSerial p limit m s → r ≡ s }
+{}
+
+ghost use Rattle.bs_semantics.specs.Examples.{ExchangeRuns, SendsTwice, AsksTwice, WaitsBoth};
+
+/// Four small programs at the default limit, evaluated from the definitions: two chares that send to
+/// each other, a key that is sent twice, a key that is asked twice, and two chares that wait for each
+/// other.
+pub fn worked_examples()
+    ensures exchange { ExchangeRuns 262144 }
+    ensures sent_twice { SendsTwice 262144 }
+    ensures asked_twice { AsksTwice 262144 }
+    ensures wait_for_each_other { WaitsBoth 262144 }
 {}

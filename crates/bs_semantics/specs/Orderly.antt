@@ -1,0 +1,56 @@
+-- What every history is like: its lists rise by path, and each block rests on blocks before it and on messages of its
+-- mail (docs/model.md).
+use Rattle.std.specs.Prelude.{◌≡◌, ◌⊎◌, ℕ, suc, List, [], ◌∷◌, Some, None, map, max}
+use Rattle.std.specs.Ordering.{nat_cmp}
+use Rattle.std.specs.Cmp.Lexicographic.{slice_cmp}
+use Rattle.std.specs.declared.cmp.Ordering.TheVariants.{Less}
+use Rattle.bs_log.specs.declared.history.Key.{Key}
+use Rattle.bs_log.specs.declared.history.Origin.{Origin}
+use Rattle.bs_log.specs.declared.history.Message.{Message}
+use Rattle.bs_log.specs.declared.history.Block.{Block}
+use Rattle.bs_log.specs.declared.history.WaitAt.{WaitAt}
+use Rattle.bs_log.specs.declared.history.History.{History}
+use Rattle.bs_semantics.specs.Acts.{Parcel}
+use Rattle.bs_semantics.specs.Run.{Lookup, signed, greatest}
+use Rattle.bs_semantics.specs.Rounds.{Mem}
+
+-- paths are ordered as lists of numbers
+abbrev pub IsBelow : List ℕ → List ℕ → Type 0
+IsBelow a b = slice_cmp nat_cmp a b ≡ Less
+
+-- each of a list stands so to all later ones
+abbrev pub InOrder : {A : Type 0} → (A → A → Type 0) → List A → Type 0
+InOrder R [] = Unit {0}
+InOrder R (x ∷ xs) = ((y : _) → Mem y xs → R x y) × InOrder R xs
+
+-- the path of each block is below those of all later ones
+abbrev pub Rising : List Block → Type 0
+Rising = InOrder (λ x y. IsBelow x.path.0 y.path.0)
+
+-- the block causes are blocks that P holds of, and the depth is 1 more than the greatest of all causes
+pub record RestsOn (P : Block → Type 0) (x : Block) : Type 0 where
+  pub causes : List Block
+  pub known : (b : Block) → Mem b causes → P b
+  pub after : x.after ≡ map (λ b. b.path) causes
+  pub depth : x.depth ≡ suc (max (greatest (λ b. b.depth) causes) (greatest (λ o. o.depth) x.mail))
+
+-- each rests on blocks that P holds of and on those before it
+abbrev pub EachRestsOn : (Block → Type 0) → List Block → Type 0
+EachRestsOn P [] = Unit {0}
+EachRestsOn P (x ∷ xs) = RestsOn P x × EachRestsOn (λ b. (b ≡ x) ⊎ P b) xs
+
+-- a message of the mail has this origin
+pub record CameBy (mail : Lookup) (o : Origin) : Type 0 where
+  pub key : Key
+  pub message : Message
+  pub is_held : mail key ≡ Some message
+  pub is_from : message.origin ≡ o
+
+-- the blocks rise, each rests on blocks before it, its messages are signed by it and counted from 1, its message causes
+-- came by the mail, and no key that is waited for is in the mail
+pub record IsOrderly (c : ℕ) (mail : Lookup) (h : History) : Type 0 where
+  pub rising : Rising h.blocks
+  pub earlier : EachRestsOn (λ b. ⊥) h.blocks
+  pub signed : (x : Block) → Mem x h.blocks → (ps : List Parcel) × (x.sends ≡ signed c x.path.0 x.depth 1 ps)
+  pub came : (x : Block) → Mem x h.blocks → (o : Origin) → Mem o x.mail → CameBy mail o
+  pub lacks : (w : WaitAt) → Mem w h.waits → mail w.key ≡ None
