@@ -13,7 +13,7 @@ use Rattle.bs_semantics.specs.Rounds.{Mem, mail_to, sent, chares, histories, Clo
 use Rattle.bs_log.specs.Size.{size_all}
 use Rattle.bs_semantics.specs.Depth.{all_blocks}
 use Rattle.bs_semantics.proofs.Options.{none_some, some_same}
-use Rattle.bs_semantics.proofs.Members.{mem_left, mem_right, mem_cases}
+use Rattle.bs_semantics.proofs.Members.{mem_left, mem_right, mem_cases, mem_map}
 use Rattle.bs_semantics.proofs.CauseDepths.{union_depth, with_mail_depth, depth_in}
 use Rattle.bs_semantics.proofs.Kept.{Closure, list_kept}
 use Rattle.bs_semantics.proofs.Mails.{found}
@@ -149,11 +149,6 @@ long (suc d) ns h =
     let one = w.count in
     omega (arith, more, one)
 
-mem_map : (x : Block) (xs : List Block) → Mem x xs → Mem x.depth (map (λ x. x.depth) xs)
-mem_map x [] m = absurd m
-mem_map x (y ∷ xs) (inl e) = inl (ap (λ x. x.depth) e)
-mem_map x (y ∷ xs) (inr m) = inr (mem_map x xs m)
-
 length_map : (xs : List Block) → length (map (λ x. x.depth) xs) ≡ length xs
 length_map [] = refl
 length_map (x ∷ xs) = ap suc (length_map xs)
@@ -217,7 +212,7 @@ module _ (p : Program) (limit : ℕ) where
         let r = rests x i in
         let is = r.is in
         let n = long (suc r.below) (map (λ x. x.depth) (all_blocks (histories p limit all)))
-        (λ e l. let o = down r.below (x, i, is) e l in subst (λ j. Mem j (map (λ x. x.depth) (all_blocks (histories p limit all)))) o.2 (mem_map o.0 _ o.1)) in
+        (λ e l. let o = down r.below (x, i, is) e l in subst (λ j. Mem j (map (λ x. x.depth) (all_blocks (histories p limit all)))) o.2 (mem_map (λ x. x.depth) o.0 _ o.1)) in
         let m = length_map (all_blocks (histories p limit all)) in
         omega (arith, is, n, m)
 

@@ -15,12 +15,13 @@ pub mod Ambiguous
 pub mod Verdicts
 pub mod Spends
 pub mod Cut
+pub mod Sorted
 pub mod Rising
-pub mod Unique
 pub mod Rests
 pub mod ClosedSets
 pub mod Find
 pub mod Starting
+pub mod Reached
 pub mod Unrolled
 pub mod Examples
 pub mod OneSerial

@@ -99,18 +99,18 @@ same_list xs ys s h f = all_held xs ys s h (λ m i. (found xs m.sent.to m.sent.k
 pub part_in : (xs ys : List Message) → Apart one_key ys → ((m : Message) → Mem m xs → Mem m ys) → (c : ℕ) → PartOf (mail_to xs c) (mail_to ys c)
 part_in xs ys k f c key m e = let at = found xs c key m e in hits_at ys k m (f m at.0) c key at.1
 
-record Some_for (xs : List Message) (c : ℕ) (k : Key) : Type 0 where
+record HasFor (xs : List Message) (c : ℕ) (k : Key) : Type 0 where
   message : Message
   is : mail_to xs c k ≡ Some message
 
-some_if : (x : Message) (xs : List Message) (c : ℕ) (k : Key) (t : Bool) → is_for c k x ≡ t → (t ≡ false → Some_for xs c k) → Some_for (x ∷ xs) c k
-some_if x xs c k true p f = record { message = x; is = rw p refl }
-some_if x xs c k false p f = let h = f refl in record { message = h.message; is = rw p h.is }
+has_if : (x : Message) (xs : List Message) (c : ℕ) (k : Key) (t : Bool) → is_for c k x ≡ t → (t ≡ false → HasFor xs c k) → HasFor (x ∷ xs) c k
+has_if x xs c k true p f = record { message = x; is = rw p refl }
+has_if x xs c k false p f = let h = f refl in record { message = h.message; is = rw p h.is }
 
-some_for : (xs : List Message) (c : ℕ) (k : Key) (m : Message) → Mem m xs → is_for c k m ≡ true → Some_for xs c k
-some_for [] c k m i e = absurd i
-some_for (x ∷ xs) c k m (inl q) e = some_if x xs c k (is_for c k x) refl (λ f. true_false (sym e ∙ (ap (is_for c k) q ∙ f)))
-some_for (x ∷ xs) c k m (inr i) e = some_if x xs c k (is_for c k x) refl (λ f. some_for xs c k m i e)
+has_for : (xs : List Message) (c : ℕ) (k : Key) (m : Message) → Mem m xs → is_for c k m ≡ true → HasFor xs c k
+has_for [] c k m i e = absurd i
+has_for (x ∷ xs) c k m (inl q) e = has_if x xs c k (is_for c k x) refl (λ f. true_false (sym e ∙ (ap (is_for c k) q ∙ f)))
+has_for (x ∷ xs) c k m (inr i) e = has_if x xs c k (is_for c k x) refl (λ f. has_for xs c k m i e)
 
 -- the order of a mail doesn't matter, nor does it if a message stands twice
 pub same_messages : (xs ys : List Message) → Apart one_key ys → ((m : Message) → Mem m xs → Mem m ys) → ((m : Message) → Mem m ys → Mem m xs) → SameMail xs ys
@@ -119,5 +119,12 @@ same_messages xs ys k f g c = λ key. ap (λ l. l key) (one_lookup (mail_to xs c
     back : PartOf (mail_to ys c) (mail_to xs c)
     back key m e =
         let at = found ys c key m e in
-        let h = some_for xs c key m (g m at.0) at.1 in
+        let h = has_for xs c key m (g m at.0) at.1 in
         h.is ∙ (sym (part_in xs ys k f c key h.message h.is) ∙ e)
+
+-- messages that are all in a list, which are all in one whose keys are apart
+pub part_among : (xs ys zs : List Message) → Apart one_key zs → ((m : Message) → Mem m xs → Mem m ys) → ((m : Message) → Mem m ys → Mem m zs) → (c : ℕ) → PartOf (mail_to xs c) (mail_to ys c)
+part_among xs ys zs k f g c key m e =
+    let at = found xs c key m e in
+    let h = has_for ys c key m (f m at.0) at.1 in
+    h.is ∙ (sym (part_in ys zs k g c key h.message h.is) ∙ hits_at zs k m (g m (f m at.0)) c key at.1)

@@ -1,5 +1,5 @@
 -- Each block rests on blocks before it and on messages of the mail, and what is waited for isn't in the mail.
-use Rattle.std.proofs.Common.{◌≡◌, ◌⊎◌, inl, inr, ℕ, suc, max, Bool, if◌then◌else◌, List, [], ◌∷◌, ◌++◌, Option, Some, None, Ok, refl, sym, ap, ap₂, subst, ◌∙◌, map, is_some, Ordering, Less, Equal, Greater}
+use Rattle.std.proofs.Common.{◌≡◌, ◌⊎◌, inl, inr, ℕ, suc, max, Bool, if◌then◌else◌, List, [], ◌∷◌, ◌++◌, Option, Some, None, Ok, refl, sym, ap, ap₂, subst, ◌∙◌, map, is_some}
 use Rattle.bs_tree.specs.declared.tree.Program.{Program}
 use Rattle.bs_tree.specs.declared.tree.Path.{Path}
 use Rattle.bs_log.specs.declared.history.Key.{Key}
@@ -9,41 +9,13 @@ use Rattle.bs_log.specs.declared.history.Block.{Block}
 use Rattle.bs_log.specs.declared.history.WaitAt.{WaitAt}
 use Rattle.bs_semantics.specs.Value.{Cells}
 use Rattle.bs_semantics.specs.Acts.{Tally}
-use Rattle.bs_semantics.specs.Run.{Lookup, Run, State, Cause, Causes, cause_cmp, origin_cmp, place_by, put, put_all, union, greatest, serial, made, alone, from_end, after, recelled, both, held, held_and, missing, go_on, all_waits, with_mail, run, start}
+use Rattle.bs_semantics.specs.Run.{Lookup, Run, State, Cause, Causes, cause_cmp, origin_cmp, union, greatest, serial, made, alone, from_end, after, recelled, both, held, held_and, missing, go_on, all_waits, with_mail, run, start}
 use Rattle.bs_semantics.specs.Rounds.{Mem}
 use Rattle.bs_semantics.specs.Orderly.{EachRestsOn, CameBy}
 use Rattle.bs_semantics.proofs.Options.{none_some, some_same}
+use Rattle.bs_semantics.proofs.Sorted.{put_all_member}
 use Rattle.bs_semantics.proofs.Members.{mem_left, mem_right, mem_cases}
 use Rattle.bs_semantics.proofs.Kept.{Closure, list_kept}
-
--- members of a set put together
-put_member : {A : Type 0} (cmp : A → A → Ordering) (a x : A) (ys : List A) → Mem x (put cmp a ys) → (x ≡ a) ⊎ Mem x ys
-put_member cmp a x [] (inl e) = inl e
-put_member cmp a x [] (inr m) = absurd m
-put_member cmp a x (y ∷ ys) m = by_order (cmp a y) m (put_member cmp a x ys)
-  where
-    by_rest : (x ≡ a) ⊎ Mem x ys → (x ≡ a) ⊎ Mem x (y ∷ ys)
-    by_rest (inl e) = inl e
-    by_rest (inr m) = inr (inr m)
-
-    by_order : (o : Ordering) → Mem x (place_by o a y ys (put cmp a ys)) → (Mem x (put cmp a ys) → (x ≡ a) ⊎ Mem x ys) → (x ≡ a) ⊎ Mem x (y ∷ ys)
-    by_order Less (inl e) f = inl e
-    by_order Less (inr m) f = inr m
-    by_order Equal m f = inr m
-    by_order Greater (inl e) f = inr (inl e)
-    by_order Greater (inr m) f = by_rest (f m)
-
-put_all_member : {A : Type 0} (cmp : A → A → Ordering) (x : A) (xs ys : List A) → Mem x (put_all cmp xs ys) → Mem x xs ⊎ Mem x ys
-put_all_member cmp x [] ys m = inr m
-put_all_member cmp x (a ∷ xs) ys m = by_put (put_member cmp a x (put_all cmp xs ys) m) (put_all_member cmp x xs ys)
-  where
-    by_more : Mem x xs ⊎ Mem x ys → Mem x (a ∷ xs) ⊎ Mem x ys
-    by_more (inl m) = inl (inr m)
-    by_more (inr m) = inr m
-
-    by_put : (x ≡ a) ⊎ Mem x (put_all cmp xs ys) → (Mem x (put_all cmp xs ys) → Mem x xs ⊎ Mem x ys) → Mem x (a ∷ xs) ⊎ Mem x ys
-    by_put (inl e) f = inl (inl e)
-    by_put (inr m) f = by_more (f m)
 
 -- a cause that stands for a block of a list
 record Stood (past : List Block) (c : Cause) : Type 0 where

@@ -18,7 +18,7 @@ use Rattle.bs_semantics.specs.Rounds.{Mem}
 use Rattle.bs_semantics.specs.Orderly.{Rising}
 use Rattle.bs_semantics.proofs.Members.{mem_cases}
 
-less_first : (a b : ℕ) → a < b → nat_cmp a b ≡ Less
+pub less_first : (a b : ℕ) → a < b → nat_cmp a b ≡ Less
 less_first a b l = rw (lt-ltb a b l) refl
 
 less_paths : (p : List ℕ) (a b : ℕ) (r s : List ℕ) → a < b → slice_cmp nat_cmp (p ++ a ∷ r) (p ++ b ∷ s) ≡ Less

@@ -17,7 +17,7 @@ use Rattle.bs_semantics.proofs.Growth.{grows_whole}
 use Rattle.bs_semantics.proofs.Mails.{part_in}
 use Rattle.bs_semantics.proofs.Sets.{from_block, into, sent_grows, sizes_grow, once_grows}
 use Rattle.bs_semantics.proofs.Rising.{run_rising}
-use Rattle.bs_semantics.proofs.Unique.{one_at}
+use Rattle.bs_semantics.proofs.Sorted.{one_at}
 use Rattle.bs_semantics.proofs.Rests.{run_earlier}
 use Rattle.bs_semantics.proofs.ClosedSets.{path_of, any_order}
 use Rattle.bs_semantics.proofs.Confluence.{clean_closed}

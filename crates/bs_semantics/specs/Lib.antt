@@ -11,4 +11,5 @@ pub mod Spending
 pub mod Orderly
 pub mod ClosedTest
 pub mod Starting
+pub mod Reached
 pub mod Examples

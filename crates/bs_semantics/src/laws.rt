@@ -126,6 +126,23 @@ pub fn one_serial()
     ensures { (p : Program) (limit : ℕ) (m : Machine) (r s : Simulated) → IsSerial p limit m r → IsSerial p limit m s → r ≡ s }
 {}
 
+ghost use Rattle.bs_log.specs.declared.outcome.Outcome.{Outcome};
+ghost use Rattle.bs_semantics.specs.Serial.{unclean, timed};
+ghost use Rattle.bs_semantics.specs.Reached.{IsReached, Shows};
+
+/// **Serial.** Where the verdict is Clean, each state that the serial machine model reaches is clean
+/// (`clean`), so its answer isn't `unclean` (`never_unclean`). Where it gives an outcome, the verdict
+/// is Clean: the outcome's rows are the blocks of the Clean round in the order of (chare, path), and
+/// its traps and waits are those of that round (`timed`).
+///
+/// There is no premise on the program or on the machine. The starts in the rows are the model's own;
+/// what they are isn't said here.
+pub fn serial()
+    ensures clean { (p : Program) (limit n : ℕ) (m : Machine) (bs : List Started) → CleanAt p limit n → IsReached p limit m bs → IsClean p limit bs }
+    ensures never_unclean { (p : Program) (limit n : ℕ) (m : Machine) → CleanAt p limit n → IsSerial p limit m unclean → ⊥ }
+    ensures timed { (p : Program) (limit : ℕ) (m : Machine) (o : Outcome) → IsSerial p limit m (timed o) → (n : ℕ) × CleanAt p limit n × Shows p limit m n o }
+{}
+
 ghost use Rattle.bs_semantics.specs.Examples.{ExchangeRuns, SendsTwice, AsksTwice, WaitsBoth};
 
 /// Four small programs at the default limit, evaluated from the definitions: two chares that send to

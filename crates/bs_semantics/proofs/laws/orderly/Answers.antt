@@ -2,7 +2,7 @@ use Rattle.bs_semantics.proofs.laws.orderly.Goals as goal
 use Rattle.bs_semantics.proofs.Rising.{run_rising}
 use Rattle.bs_semantics.proofs.Rests.{run_earlier, run_lacks, run_came}
 use Rattle.bs_semantics.proofs.Signed.{run_signed}
-use Rattle.bs_semantics.proofs.Unique.{one_list}
+use Rattle.bs_semantics.proofs.Sorted.{one_list}
 
 pub returns-clause-histories : goal.returns-clause-histories
 returns-clause-histories c p limit this mail = record {
