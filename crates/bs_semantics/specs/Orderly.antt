@@ -1,6 +1,6 @@
 -- What every history is like: its lists rise by path, and each block rests on blocks before it and on messages of its
 -- mail (docs/model.md).
-use Rattle.std.specs.Prelude.{◌≡◌, ◌⊎◌, ℕ, suc, List, [], ◌∷◌, Some, None, map, max}
+use Rattle.std.specs.Prelude.{◌≡◌, ◌⊎◌, ℕ, suc, true, List, [], ◌∷◌, Some, None, map, max}
 use Rattle.std.specs.Ordering.{nat_cmp}
 use Rattle.std.specs.Cmp.Lexicographic.{slice_cmp}
 use Rattle.std.specs.declared.cmp.Ordering.TheVariants.{Less}
@@ -17,6 +17,9 @@ use Rattle.bs_semantics.specs.Rounds.{Mem}
 -- paths are ordered as lists of numbers
 abbrev pub IsBelow : List ℕ → List ℕ → Type 0
 IsBelow a b = slice_cmp nat_cmp a b ≡ Less
+
+abbrev pub IsUpTo : List ℕ → List ℕ → Type 0
+IsUpTo a b = (a ≡ b) ⊎ IsBelow a b
 
 -- each of a list stands so to all later ones
 abbrev pub InOrder : {A : Type 0} → (A → A → Type 0) → List A → Type 0
@@ -46,11 +49,16 @@ pub record CameBy (mail : Lookup) (o : Origin) : Type 0 where
   pub is_held : mail key ≡ Some message
   pub is_from : message.origin ≡ o
 
--- the blocks rise, each rests on blocks before it, its messages are signed by it and counted from 1, its message causes
--- came by the mail, and no key that is waited for is in the mail
+-- blocks and traps rise by path, and no key is asked or waited for at a path above that of a later one; each block rests
+-- on blocks before it, its messages are signed by it and counted from 1, and its message causes came by the mail; no key
+-- that is waited for is in the mail; and where the body ended there is no trap and no wait
 pub record IsOrderly (c : ℕ) (mail : Lookup) (h : History) : Type 0 where
   pub rising : Rising h.blocks
+  pub asked : InOrder (λ x y. IsUpTo x.path.0 y.path.0) h.asked
+  pub traps : InOrder (λ x y. IsBelow x.path.0 y.path.0) h.traps
+  pub waits : InOrder (λ x y. IsUpTo x.path.0 y.path.0) h.waits
   pub earlier : EachRestsOn (λ b. ⊥) h.blocks
   pub signed : (x : Block) → Mem x h.blocks → (ps : List Parcel) × (x.sends ≡ signed c x.path.0 x.depth 1 ps)
   pub came : (x : Block) → Mem x h.blocks → (o : Origin) → Mem o x.mail → CameBy mail o
   pub lacks : (w : WaitAt) → Mem w h.waits → mail w.key ≡ None
+  pub quiet : h.ended ≡ true → (h.traps ≡ []) × (h.waits ≡ [])
