@@ -17,6 +17,7 @@ pub mod Spends
 pub mod Cut
 pub mod Sorted
 pub mod Rising
+pub mod Numbering
 pub mod Rests
 pub mod ClosedSets
 pub mod Find

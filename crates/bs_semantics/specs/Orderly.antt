@@ -1,14 +1,18 @@
 -- What every history is like: its lists rise by path, and each block rests on blocks before it and on messages of its
 -- mail (docs/model.md).
-use Rattle.std.specs.Prelude.{◌≡◌, ◌⊎◌, ℕ, suc, true, List, [], ◌∷◌, Some, None, map, max}
+use Rattle.std.specs.Prelude.{◌≡◌, ◌⊎◌, ◌≤◌, ◌<◌, ℕ, suc, true, List, [], ◌∷◌, Some, None, map, max}
 use Rattle.std.specs.Ordering.{nat_cmp}
 use Rattle.std.specs.Cmp.Lexicographic.{slice_cmp}
 use Rattle.std.specs.declared.cmp.Ordering.TheVariants.{Less}
+use Rattle.bs_tree.specs.declared.tree.Program.{Program}
+use Rattle.bs_tree.specs.Count.{statements_in}
 use Rattle.bs_log.specs.declared.history.Key.{Key}
 use Rattle.bs_log.specs.declared.history.Origin.{Origin}
 use Rattle.bs_log.specs.declared.history.Message.{Message}
 use Rattle.bs_log.specs.declared.history.Block.{Block}
+use Rattle.bs_log.specs.declared.history.Asked.{Asked}
 use Rattle.bs_log.specs.declared.history.WaitAt.{WaitAt}
+use Rattle.bs_log.specs.declared.history.TrapAt.{TrapAt}
 use Rattle.bs_log.specs.declared.history.History.{History}
 use Rattle.bs_semantics.specs.Acts.{Parcel}
 use Rattle.bs_semantics.specs.Run.{Lookup, signed, greatest}
@@ -62,3 +66,17 @@ pub record IsOrderly (c : ℕ) (mail : Lookup) (h : History) : Type 0 where
   pub came : (x : Block) → Mem x h.blocks → (o : Origin) → Mem o x.mail → CameBy mail o
   pub lacks : (w : WaitAt) → Mem w h.waits → mail w.key ≡ None
   pub quiet : h.ended ≡ true → (h.traps ≡ []) × (h.waits ≡ [])
+
+-- a number of one of the program's statements, which are counted from 1
+abbrev pub IsStatement : Program → ℕ → Type 0
+IsStatement p n = (1 ≤ n) × (n ≤ statements_in p.body)
+
+-- all that a history holds stands at statements of the program; the traps rise by statement, and no wait stands at a
+-- statement above that of a later one
+pub record IsNumbered (p : Program) (h : History) : Type 0 where
+  pub blocks : (x : Block) → Mem x h.blocks → IsStatement p x.stmt
+  pub asked : (a : Asked) → Mem a h.asked → IsStatement p a.stmt
+  pub traps : (t : TrapAt) → Mem t h.traps → IsStatement p t.stmt
+  pub waits : (w : WaitAt) → Mem w h.waits → IsStatement p w.stmt
+  pub trap_order : InOrder (λ x y. x.stmt < y.stmt) h.traps
+  pub wait_order : InOrder (λ x y. x.stmt ≤ y.stmt) h.waits

@@ -87,17 +87,19 @@ pub fn cut()
     ensures { (p : Program) → HasNoIdleLoop p → IsUncut p }
 {}
 
-ghost use Rattle.bs_semantics.specs.Orderly.{IsOrderly, Rising};
+ghost use Rattle.bs_semantics.specs.Orderly.{IsOrderly, IsNumbered, Rising};
 
 /// Every history is in order: its blocks and traps rise by path, and so do the keys asked and the
 /// waits, of which one `when` gives several at one path; each block rests on blocks before it and on
 /// messages of the mail, and is 1 deeper than the deepest of them; what is waited for isn't in the
-/// mail; and where the body ended there is no trap and no wait (`histories`). So blocks that rise by
-/// path are fixed by which blocks they are (`one`).
+/// mail; and where the body ended there is no trap and no wait (`histories`). All stands at statements
+/// of the program, and the traps and waits rise by statement too (`numbers`). Blocks that rise by path
+/// are fixed by which blocks they are (`one`).
 ///
 /// There is no premise on the program or on the mail.
 pub fn orderly()
     ensures histories { (p : Program) (limit c : ℕ) (mail : Lookup) → IsOrderly c mail (history p limit c mail) }
+    ensures numbers { (p : Program) (limit c : ℕ) (mail : Lookup) → IsNumbered p (history p limit c mail) }
     ensures one { (xs ys : List Block) → Rising xs → Rising ys → ((x : Block) → Mem x xs → Mem x ys) → ((x : Block) → Mem x ys → Mem x xs) → xs ≡ ys }
 {}
 

@@ -1,6 +1,7 @@
 use Rattle.bs_semantics.proofs.laws.orderly.Goals as goal
 use Rattle.bs_semantics.proofs.Rising.{run_rising, run_asked, run_traps, run_waits, run_quiet}
 use Rattle.bs_semantics.proofs.Rests.{run_earlier, run_lacks, run_came}
+use Rattle.bs_semantics.proofs.Numbering.{numbered}
 use Rattle.bs_semantics.proofs.Signed.{run_signed}
 use Rattle.bs_semantics.proofs.Sorted.{one_list}
 
@@ -16,6 +17,9 @@ returns-clause-histories c p limit this mail = record {
   lacks = run_lacks mail p limit this;
   quiet = run_quiet p limit this mail;
 }
+
+pub returns-clause-numbers : goal.returns-clause-numbers
+returns-clause-numbers c = numbered
 
 pub returns-clause-one : goal.returns-clause-one
 returns-clause-one c = one_list
