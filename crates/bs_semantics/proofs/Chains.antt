@@ -159,12 +159,12 @@ module _ (p : Program) (limit : ℕ) where
   in_all f (b ∷ cs) c x (inl e) i = mem_left x _ (all_blocks (under p limit f cs)) (subst (λ b. Mem x (run p limit b (f b)).blocks) e i)
   in_all f (b ∷ cs) c x (inr h) i = mem_right x (run p limit b (f b)).blocks _ (in_all f cs c x h i)
 
-  record Of (f : ℕ → Lookup) (cs : List ℕ) (x : Block) : Type 0 where
-    chare : ℕ
-    is_chare : Mem chare cs
-    is_block : Mem x (run p limit chare (f chare)).blocks
+  pub record Of (f : ℕ → Lookup) (cs : List ℕ) (x : Block) : Type 0 where
+    pub chare : ℕ
+    pub is_chare : Mem chare cs
+    pub is_block : Mem x (run p limit chare (f chare)).blocks
 
-  of_all : (f : ℕ → Lookup) (cs : List ℕ) (x : Block) → Mem x (all_blocks (under p limit f cs)) → Of f cs x
+  pub of_all : (f : ℕ → Lookup) (cs : List ℕ) (x : Block) → Mem x (all_blocks (under p limit f cs)) → Of f cs x
   of_all f [] x i = absurd i
   of_all f (c ∷ cs) x i = by_side (mem_cases x (run p limit c (f c)).blocks (all_blocks (under p limit f cs)) i) (of_all f cs x)
     where

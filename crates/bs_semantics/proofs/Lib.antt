@@ -19,6 +19,7 @@ pub mod Sorted
 pub mod Rising
 pub mod Numbering
 pub mod Rests
+pub mod SortedCauses
 pub mod ClosedSets
 pub mod Find
 pub mod Starting

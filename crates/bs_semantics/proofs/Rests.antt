@@ -18,11 +18,11 @@ use Rattle.bs_semantics.proofs.Members.{mem_left, mem_right, mem_cases}
 use Rattle.bs_semantics.proofs.Kept.{Closure, list_kept}
 
 -- a cause that stands for a block of a list
-record Stood (past : List Block) (c : Cause) : Type 0 where
-  block : Block
-  is_in : Mem block past
-  path : block.path.0 ≡ c.path
-  depth : block.depth ≡ c.depth
+pub record Stood (past : List Block) (c : Cause) : Type 0 where
+  pub block : Block
+  pub is_in : Mem block past
+  pub path : block.path.0 ≡ c.path
+  pub depth : block.depth ≡ c.depth
 
 abbrev Known : List Block → Causes → Type 0
 Known past k = (c : Cause) → Mem c k.after → Stood past c
@@ -213,7 +213,7 @@ module _ (mail : Lookup) where
   run_lacks p limit c = list_kept p limit c mail mail Lacking (lacking_closed c) p.body 0 1 [] (start p)
 
   -- the message causes
-  abbrev Held : Causes → Type 0
+  abbrev pub Held : Causes → Type 0
   Held k = (o : Origin) → Mem o k.mail → CameBy mail o
 
   record HeldBy (xs : List Block) (end : Option State) : Type 0 where
@@ -263,7 +263,7 @@ module _ (mail : Lookup) where
       one x (inl e) o m = h o (subst (λ x. Mem o x.mail) e m)
       one x (inr i) o m = absurd i
 
-  came_all : (ks : List Key) (ms : List Message) → held mail ks ≡ Some ms → (o : Origin) → Mem o (map (λ m. m.origin) ms) → CameBy mail o
+  pub came_all : (ks : List Key) (ms : List Message) → held mail ks ≡ Some ms → (o : Origin) → Mem o (map (λ m. m.origin) ms) → CameBy mail o
   came_all [] ms e o m = absurd (subst (λ ms. Mem o (map (λ m. m.origin) ms)) (sym (some_same e)) m)
   came_all (k ∷ ks) ms e o m = by_key (mail k) refl (held mail ks) (came_all ks) e
     where

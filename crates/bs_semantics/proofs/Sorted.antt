@@ -10,7 +10,7 @@ use Rattle.bs_semantics.specs.Rounds.{Mem}
 use Rattle.bs_semantics.specs.Orderly.{InOrder, Rising}
 
 -- a member of a set put together is one of both
-put_member : {A : Type 0} (cmp : A → A → Ordering) (a x : A) (ys : List A) → Mem x (put cmp a ys) → (x ≡ a) ⊎ Mem x ys
+pub put_member : {A : Type 0} (cmp : A → A → Ordering) (a x : A) (ys : List A) → Mem x (put cmp a ys) → (x ≡ a) ⊎ Mem x ys
 put_member cmp a x [] (inl e) = inl e
 put_member cmp a x [] (inr m) = absurd m
 put_member cmp a x (y ∷ ys) m = by_order (cmp a y) m (put_member cmp a x ys)

@@ -1,7 +1,7 @@
 -- What every history is like: its lists rise by path, and each block rests on blocks before it and on messages of its
 -- mail (docs/model.md).
 use Rattle.std.specs.Prelude.{◌≡◌, ◌⊎◌, ◌≤◌, ◌<◌, ℕ, suc, true, List, [], ◌∷◌, Some, None, map, max}
-use Rattle.std.specs.Ordering.{nat_cmp}
+use Rattle.std.specs.Ordering.{nat_cmp, ordering_then}
 use Rattle.std.specs.Cmp.Lexicographic.{slice_cmp}
 use Rattle.std.specs.declared.cmp.Ordering.TheVariants.{Less}
 use Rattle.bs_tree.specs.declared.tree.Program.{Program}
@@ -80,3 +80,16 @@ pub record IsNumbered (p : Program) (h : History) : Type 0 where
   pub waits : (w : WaitAt) → Mem w h.waits → IsStatement p w.stmt
   pub trap_order : InOrder (λ x y. x.stmt < y.stmt) h.traps
   pub wait_order : InOrder (λ x y. x.stmt ≤ y.stmt) h.waits
+
+-- messages are ordered by (chare, path, place of the send)
+abbrev pub IsBefore : Origin → Origin → Type 0
+IsBefore a b = ordering_then (nat_cmp a.chare b.chare) (ordering_then (slice_cmp nat_cmp a.path.0 b.path.0) (nat_cmp a.index b.index)) ≡ Less
+
+-- block causes rise by path, and message causes by (chare, path, place of the send)
+pub record HasSortedCauses (x : Block) : Type 0 where
+  pub after : InOrder (λ q r. IsBelow q.0 r.0) x.after
+  pub mail : InOrder IsBefore x.mail
+
+-- messages of the mail that come from one place have one depth
+abbrev pub PlacesHaveOneDepth : Lookup → Type 0
+PlacesHaveOneDepth mail = (o u : Origin) → CameBy mail o → CameBy mail u → o.chare ≡ u.chare → o.path.0 ≡ u.path.0 → o.index ≡ u.index → o.depth ≡ u.depth

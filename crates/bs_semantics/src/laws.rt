@@ -33,7 +33,7 @@ pub fn growth()
     ensures histories { (p : Program) (limit c : ℕ) → HistoryGrows p limit c }
 {}
 
-ghost use Rattle.bs_semantics.specs.Depth.{RunReaches, IsShallow};
+ghost use Rattle.bs_semantics.specs.Depth.{RunReaches, IsShallow, all_blocks};
 
 /// **Depth.** Where a mail is part of another, and lacks none of its messages that are less deep than
 /// some number, a run under it lacks none of the other run's blocks up to that depth; and where the
@@ -87,7 +87,7 @@ pub fn cut()
     ensures { (p : Program) → HasNoIdleLoop p → IsUncut p }
 {}
 
-ghost use Rattle.bs_semantics.specs.Orderly.{IsOrderly, IsNumbered, Rising};
+ghost use Rattle.bs_semantics.specs.Orderly.{IsOrderly, IsNumbered, PlacesHaveOneDepth, HasSortedCauses, Rising};
 
 /// Every history is in order: its blocks and traps rise by path, and so do the keys asked and the
 /// waits, of which one `when` gives several at one path; each block rests on blocks before it and on
@@ -96,21 +96,25 @@ ghost use Rattle.bs_semantics.specs.Orderly.{IsOrderly, IsNumbered, Rising};
 /// of the program, and the traps and waits rise by statement too (`numbers`). Blocks that rise by path
 /// are fixed by which blocks they are (`one`).
 ///
-/// There is no premise on the program or on the mail.
+/// The causes of a block rise (`causes`), with the premise that the mail doesn't hold two messages
+/// from one place with two depths, which no mail of what histories send does.
+/// For the rest there is no premise on the program or on the mail.
 pub fn orderly()
     ensures histories { (p : Program) (limit c : ℕ) (mail : Lookup) → IsOrderly c mail (history p limit c mail) }
     ensures numbers { (p : Program) (limit c : ℕ) (mail : Lookup) → IsNumbered p (history p limit c mail) }
+    ensures causes { (p : Program) (limit c : ℕ) (mail : Lookup) → PlacesHaveOneDepth mail → (x : Block) → Mem x (history p limit c mail).blocks → HasSortedCauses x }
     ensures one { (xs ys : List Block) → Rising xs → Rising ys → ((x : Block) → Mem x xs → Mem x ys) → ((x : Block) → Mem x ys → Mem x xs) → xs ≡ ys }
 {}
 
 ghost use Rattle.bs_semantics.specs.ClosedTest.{Passes};
 
-/// Closed histories pass a test that looks at them alone and not at the program's body (`passes`). And
-/// the mail that they are taken under may hold what they send in any order, and a message several
-/// times, as long as it holds nothing else (`order`).
+/// Closed histories pass a test that looks at them alone and not at the program's body (`passes`). The
+/// mail that they are taken under may hold what they send in any order, and a message several times,
+/// as long as it holds nothing else (`order`). And the causes of each of their blocks rise (`causes`).
 pub fn closed_sets()
     ensures passes { (p : Program) (limit : ℕ) (hs : List History) → Closed p limit hs → Passes p limit hs }
     ensures order { (p : Program) (limit : ℕ) (ms : List Message) (hs : List History) → hs ≡ histories p limit ms → Once hs → size_all hs ≤ limit → SameMessages ms (sent hs) → Closed p limit hs }
+    ensures causes { (p : Program) (limit : ℕ) (hs : List History) → Closed p limit hs → (x : Block) → Mem x (all_blocks hs) → HasSortedCauses x }
 {}
 
 ghost use Rattle.bs_semantics.specs.Serial.{Started, histories_at, IsClean};

@@ -2,6 +2,7 @@ use Rattle.bs_semantics.proofs.laws.orderly.Goals as goal
 use Rattle.bs_semantics.proofs.Rising.{run_rising, run_asked, run_traps, run_waits, run_quiet}
 use Rattle.bs_semantics.proofs.Rests.{run_earlier, run_lacks, run_came}
 use Rattle.bs_semantics.proofs.Numbering.{numbered}
+use Rattle.bs_semantics.proofs.SortedCauses.{run_sorted}
 use Rattle.bs_semantics.proofs.Signed.{run_signed}
 use Rattle.bs_semantics.proofs.Sorted.{one_list}
 
@@ -20,6 +21,9 @@ returns-clause-histories c p limit this mail = record {
 
 pub returns-clause-numbers : goal.returns-clause-numbers
 returns-clause-numbers c = numbered
+
+pub returns-clause-causes : goal.returns-clause-causes
+returns-clause-causes c p limit this mail one x m = run_sorted p limit this mail one x m
 
 pub returns-clause-one : goal.returns-clause-one
 returns-clause-one c = one_list
