@@ -105,11 +105,11 @@ module _ (D : ℕ → Type 0) where
     ask_rest k ks as' ws g d h None p occ = none_rest
     ask_rest k ks as' ws g d h (Some ms) p occ = h ms (subst (Good D) (sym (with_mail_depth ms k)) (good_max D _ _ (held_good ks ms p) d)) occ
 
-    justified_closed : (this : ℕ) → Closure this a a Justified
-    justified_closed this = record {
+    justified_closed : (p : Program) (this : ℕ) → Closure p this a a Justified
+    justified_closed p this = record {
       ended = λ s g occ. record { blocks = λ x m. absurd m; ends = λ e z. good_end s e g z };
       halted = λ k ts g occ. none_rest;
-      made = λ n path s t g occ. made_rest this n path s t g occ;
+      made = λ n path s acts t is g occ. made_rest this n path s t g occ;
       asked = λ n path k ks f g h d occ. ask_rest k ks _ _ g d h (held a ks) refl occ;
       followed = λ k r q f g h i d occ. after_rest q g (h d) i q.end refl occ;
       recelled = λ k f r q h d occ. cells_rest f q q.end refl (h d occ);
@@ -117,7 +117,7 @@ module _ (D : ℕ → Type 0) where
     }
 
     pub run_rest : (p : Program) (limit c : ℕ) → Occur (run p limit c a).blocks → (x : Block) → Mem x (run p limit c a).blocks → Rests D x.depth
-    run_rest p limit c occ = (list_kept p limit c a a Justified (justified_closed c) p.body 0 1 [] (start p) (inl refl) occ).blocks
+    run_rest p limit c occ = (list_kept p limit c a a Justified (justified_closed p c) p.body 0 1 [] (start p) (inl refl) occ).blocks
 
 -- a list that holds each number from 1 to d is at least d long
 record Without (x : ℕ) (ns : List ℕ) : Type 0 where

@@ -194,11 +194,11 @@ module _ (d : ℕ) where
         end_above : (e : State) → (serial this n path s (Ok t)).end ≡ Some e → depth_of s.causes ≤ depth_of e.causes
         end_above e u = subst (λ e. depth_of s.causes ≤ depth_of e.causes) (some_same u) (omega arith)
 
-    deep_closed : (this : ℕ) → Closure this a b (Deep d)
-    deep_closed this = record {
+    deep_closed : (p : Program) (this : ℕ) → Closure p this a b (Deep d)
+    deep_closed p this = record {
       ended = λ s. record { before = itself _; above = λ x m. absurd m; end_above = λ e u. subst (λ e. depth_of s.causes ≤ depth_of e.causes) (some_same u) (omega arith); blocks = λ x m l. m; end = λ e u l. u };
       halted = λ k ts. record { before = itself _; above = λ x m. absurd m; end_above = λ e u. absurd (none_some u); blocks = λ x m l. m; end = λ e u l. u };
-      made = λ n path s t. made_deep this n path s t;
+      made = λ n path s acts t is. made_deep this n path s t;
       asked = λ n path k ks f g h. ask_deep n path k ks f g h;
       followed = λ k r q f g h i. then_deep k r q f g h i;
       recelled = λ k f r q h. cells_deep k f r q h;
@@ -206,7 +206,7 @@ module _ (d : ℕ) where
     }
 
     pub statement_deep : (p : Program) (limit c n : ℕ) (path : List ℕ) (st : Stmt) (s : State) → Deep d s.causes ((meant p limit c st).does a n path s) ((meant p limit c st).does b n path s)
-    statement_deep p limit c n path st s = statement_kept p limit c a b (Deep d) (deep_closed c) st n path s
+    statement_deep p limit c n path st s = statement_kept p limit c a b (Deep d) (deep_closed p c) st n path s
 
     pub run_deep : (p : Program) (limit c : ℕ) → Deep d (start p).causes (run p limit c a) (run p limit c b)
-    run_deep p limit c = list_kept p limit c a b (Deep d) (deep_closed c) p.body 0 1 [] (start p)
+    run_deep p limit c = list_kept p limit c a b (Deep d) (deep_closed p c) p.body 0 1 [] (start p)

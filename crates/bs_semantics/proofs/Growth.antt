@@ -99,11 +99,11 @@ ask_grows a b w n path ks f g h = by_held (held a ks) (held b ks) refl refl
         let eq : ms ≡ ns = cc in
         subst (λ ns. RunWithin (after_asking qs (f ms)) (after_asking qs (g ns))) eq (asking_grows qs (f ms) (g ms) (h ms))
 
-pub growth_closed : (this : ℕ) (a b : Lookup) → PartOf a b → Closure this a b (λ k. RunWithin)
-growth_closed this a b w = record {
+pub growth_closed : (p : Program) (this : ℕ) (a b : Lookup) → PartOf a b → Closure p this a b (λ k. RunWithin)
+growth_closed p this a b w = record {
   ended = λ s. itself _;
   halted = λ k ts. itself _;
-  made = λ n path s t. itself _;
+  made = λ n path s acts t is. itself _;
   asked = λ n path k ks f g h. ask_grows a b w n path ks f g h;
   followed = λ k r q f g h i. then_grows r q f g h i;
   recelled = λ k f r q h. cells_grow f r q h;
@@ -111,10 +111,10 @@ growth_closed this a b w = record {
 }
 
 pub grows : (p : Program) (limit c : ℕ) (s : Stmt) → RunGrows (meant p limit c s).does
-grows p limit c s a b w = statement_kept p limit c a b (λ k. RunWithin) (growth_closed c a b w) s
+grows p limit c s a b w = statement_kept p limit c a b (λ k. RunWithin) (growth_closed p c a b w) s
 
 pub run_grows : (p : Program) (limit c : ℕ) (a b : Lookup) → PartOf a b → RunWithin (run p limit c a) (run p limit c b)
-run_grows p limit c a b w = list_kept p limit c a b (λ k. RunWithin) (growth_closed c a b w) p.body 0 1 [] (start p)
+run_grows p limit c a b w = list_kept p limit c a b (λ k. RunWithin) (growth_closed p c a b w) p.body 0 1 [] (start p)
 
 pub sends_grow : (xs ys : List Block) → Subsequence Block xs ys → Subsequence Message (sends_of xs) (sends_of ys)
 sends_grow _ _ none = none

@@ -1,6 +1,7 @@
 -- A relation of the runs under two mails, kept by each step of a run, holds of the runs of each statement.
 use Rattle.std.proofs.Common.{Option, ap, ◌≡◌, refl, Bool, subst₂, ℕ, zero, suc, ◌+◌, List, [], ◌∷◌, ◌++◌, Some, None, Result, Ok, Err, sym, subst, map, ℤ, pos, negsuc}
 use Rattle.bs_tree.specs.declared.tree.Program.{Program}
+use Rattle.bs_tree.specs.declared.tree.Act.{Act}
 use Rattle.bs_tree.specs.declared.tree.Stmt.{Stmt}
 use Rattle.bs_tree.specs.declared.tree.Stmt.TheOpen.{Stmt-F}
 use Rattle.bs_tree.specs.declared.tree.Stmt.TheFolds.{fold-roll-Stmt, ind-Stmt, map-Stmt}
@@ -13,10 +14,10 @@ use Rattle.bs_semantics.specs.Acts.{Tally, block_of}
 use Rattle.bs_semantics.specs.Layout.{place_of}
 use Rattle.bs_semantics.specs.Run.{both, recelled, mix, Lookup, Run, State, Causes, Does, Meant, ends, halts, then_do, with, branch, serial, in_turn, with_cells, join, parts, no_part, overlap, turns, assign, no_step, otherwise, keys_of, ask, took, with_mail, does_step, meant_step, meant}
 
-pub record Closure (this : ℕ) (a b : Lookup) (R : Causes → Run → Run → Type 0) : Type 0 where
+pub record Closure (p : Program) (this : ℕ) (a b : Lookup) (R : Causes → Run → Run → Type 0) : Type 0 where
   pub ended : (s : State) → R s.causes (ends s) (ends s)
   pub halted : (k : Causes) (ts : List TrapAt) → R k (halts ts) (halts ts)
-  pub made : (n : ℕ) (path : List ℕ) (s : State) (t : Tally) → R s.causes (serial this n path s (Ok t)) (serial this n path s (Ok t))
+  pub made : (n : ℕ) (path : List ℕ) (s : State) (acts : List Act) (t : Tally) → block_of p this acts s.cells ≡ Ok t → R s.causes (serial this n path s (Ok t)) (serial this n path s (Ok t))
   pub asked : (n : ℕ) (path : List ℕ) (k : Causes) (ks : List Key) (f g : List Message → Run) → ((ms : List Message) → R (with_mail ms k) (f ms) (g ms)) → R k (ask a n path ks f) (ask b n path ks g)
   pub followed : (k : Causes) (r q : Run) (f g : State → Run) → R k r q → ((s : State) → R s.causes (f s) (g s)) → R k (then_do r f) (then_do q g)
   pub recelled : (k : Causes) (f : Cells → Cells) (r q : Run) → R k r q → R k (with_cells f r) (with_cells f q)
@@ -30,7 +31,7 @@ first_part w s r = ap (λ e. record { blocks = r.blocks; asked = r.asked; traps 
     by_end None = refl
     by_end (Some e) = refl
 
-module _ (p : Program) (limit this : ℕ) (a b : Lookup) (R : Causes → Run → Run → Type 0) (c : Closure this a b R) where
+module _ (p : Program) (limit this : ℕ) (a b : Lookup) (R : Causes → Run → Run → Type 0) (c : Closure p this a b R) where
   abbrev Kept : Does → Type 0
   Kept d = (n : ℕ) (path : List ℕ) (s : State) → R s.causes (d a n path s) (d b n path s)
 
@@ -77,9 +78,9 @@ module _ (p : Program) (limit this : ℕ) (a b : Lookup) (R : Causes → Run →
   otherwise_kept : (ds : List Meant) → AllKept ds → Kept (otherwise (Some ds))
   otherwise_kept ds h n path s = in_turn_kept ds 0 h n (path ++ 1 ∷ []) s
 
-  serial_kept : (n : ℕ) (path : List ℕ) (s : State) (d : Result Tally TrapKind) → R s.causes (serial this n path s d) (serial this n path s d)
-  serial_kept n path s (Err k) = c.halted _ _
-  serial_kept n path s (Ok t) = c.made n path s t
+  serial_kept : (n : ℕ) (path : List ℕ) (s : State) (acts : List Act) (d : Result Tally TrapKind) → block_of p this acts s.cells ≡ d → R s.causes (serial this n path s d) (serial this n path s d)
+  serial_kept n path s acts (Err k) e = c.halted _ _
+  serial_kept n path s acts (Ok t) e = c.made n path s acts t e
 
   abbrev Fine : Stmt → Type 0
   Fine s = Kept (meant p limit this s).does
@@ -89,7 +90,7 @@ module _ (p : Program) (limit this : ℕ) (a b : Lookup) (R : Causes → Run →
   all_kept (e ∷ es) = (e.1, all_kept es)
 
   step_kept : (y : Stmt-F ((s : Stmt) × Fine s)) → Kept (does_step p limit this (map-Stmt Stmt Meant (meant p limit this) (map-Stmt _ Stmt (λ e. e.0) y)))
-  step_kept (Stmt-F.Serial acts) n path s = serial_kept n path s (block_of p this acts s.cells)
+  step_kept (Stmt-F.Serial acts) n path s = serial_kept n path s acts (block_of p this acts s.cells) refl
   step_kept (Stmt-F.When waits body) n path s = with_kept _ _ _ (keys_of p this waits s.cells) _ _ (λ ks. c.asked _ _ _ _ _ _ (λ ms. in_turn_kept _ 0 (all_kept body) (n + 1) path (took p waits s ms)))
   step_kept (Stmt-F.Overlap body) n path s = overlap_kept _ (all_kept body) (n + 1) path s
   step_kept (Stmt-F.For x first test y step body) n path s =

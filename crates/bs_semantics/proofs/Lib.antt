@@ -3,6 +3,7 @@ pub mod Members
 pub mod Subsequences
 pub mod Sizes
 pub mod Kept
+pub mod Proper
 pub mod Growth
 pub mod CauseDepths
 pub mod Depth

@@ -149,11 +149,11 @@ go_on_rests : (o : Option (List Message)) (as' : _) (ws : _) (f : List Message �
 go_on_rests None as' ws f past h = no_rest past
 go_on_rests (Some ms) as' ws f past h = h ms
 
-resting_closed : (this : ℕ) (a : Lookup) → Closure this a a Resting
-resting_closed this a = record {
+resting_closed : (p : Program) (this : ℕ) (a : Lookup) → Closure p this a a Resting
+resting_closed p this a = record {
   ended = λ s past h. record { earlier = tt; ends = λ e z. end_known past s e h z };
   halted = λ k ts past h. no_rest past;
-  made = λ n path s t past h. made_rests this n path s t past h;
+  made = λ n path s acts t is past h. made_rests this n path s t past h;
   asked = λ n path k ks f g h past d. go_on_rests (held a ks) _ _ g past (λ ms. h ms past d);
   followed = λ k r q f g h i past d. after_rests q g past (h past d) i q.end refl;
   recelled = λ k f r q h past d. record { earlier = (h past d).earlier; ends = λ e z. cells_rest past q.blocks f q.end (h past d).ends e z };
@@ -161,7 +161,7 @@ resting_closed this a = record {
 }
 
 pub run_earlier : (p : Program) (limit c : ℕ) (a : Lookup) → EachRestsOn (λ b. ⊥) (run p limit c a).blocks
-run_earlier p limit c a = (list_kept p limit c a a Resting (resting_closed c a) p.body 0 1 [] (start p) [] (λ c m. absurd m)).earlier
+run_earlier p limit c a = (list_kept p limit c a a Resting (resting_closed p c a) p.body 0 1 [] (start p) [] (λ c m. absurd m)).earlier
 
 -- the keys that are missing have no message
 missing_lacks : (mail : Lookup) (ks : List Key) (k : Key) → Mem k (missing mail ks) → mail k ≡ None
@@ -198,11 +198,11 @@ module _ (mail : Lookup) where
   ask_lacks n path ks as' f h None w m = waits_lack mail n path (missing mail ks) (missing_lacks mail ks) w m
   ask_lacks n path ks as' f h (Some ms) w m = h ms w m
 
-  lacking_closed : (this : ℕ) → Closure this mail mail Lacking
-  lacking_closed this = record {
+  lacking_closed : (p : Program) (this : ℕ) → Closure p this mail mail Lacking
+  lacking_closed p this = record {
     ended = λ s w m. absurd m;
     halted = λ k ts w m. absurd m;
-    made = λ n path s t w m. absurd m;
+    made = λ n path s acts t is w m. absurd m;
     asked = λ n path k ks f g h w m. ask_lacks n path ks _ g h (held mail ks) w m;
     followed = λ k r q f g h i w m. after_lacks q g h i q.end w m;
     recelled = λ k f r q h w m. h w m;
@@ -210,7 +210,7 @@ module _ (mail : Lookup) where
   }
 
   pub run_lacks : (p : Program) (limit c : ℕ) (w : WaitAt) → Mem w (run p limit c mail).waits → mail w.key ≡ None
-  run_lacks p limit c = list_kept p limit c mail mail Lacking (lacking_closed c) p.body 0 1 [] (start p)
+  run_lacks p limit c = list_kept p limit c mail mail Lacking (lacking_closed p c) p.body 0 1 [] (start p)
 
   -- the message causes
   abbrev pub Held : Causes → Type 0
@@ -287,11 +287,11 @@ module _ (mail : Lookup) where
   ask_held ks k as' ws f h i None p = none_held
   ask_held ks k as' ws f h i (Some ms) p = i ms (with_held ks ms k p h)
 
-  coming_closed : (this : ℕ) → Closure this mail mail Coming
-  coming_closed this = record {
+  coming_closed : (p : Program) (this : ℕ) → Closure p this mail mail Coming
+  coming_closed p this = record {
     ended = λ s h. record { blocks = λ x m. absurd m; ends = λ e z. held_end s e h z };
     halted = λ k ts h. none_held;
-    made = λ n path s t h. made_held this n path s t h;
+    made = λ n path s acts t is h. made_held this n path s t h;
     asked = λ n path k ks f g h d. ask_held ks k _ _ g d h (held mail ks) refl;
     followed = λ k r q f g h i d. after_held q g (h d) i q.end refl;
     recelled = λ k f r q h d. cells_held q.blocks f q.end (h d);
@@ -299,4 +299,4 @@ module _ (mail : Lookup) where
   }
 
   pub run_came : (p : Program) (limit c : ℕ) (x : Block) → Mem x (run p limit c mail).blocks → (o : Origin) → Mem o x.mail → CameBy mail o
-  run_came p limit c = (list_kept p limit c mail mail Coming (coming_closed c) p.body 0 1 [] (start p) (λ o m. absurd m)).blocks
+  run_came p limit c = (list_kept p limit c mail mail Coming (coming_closed p c) p.body 0 1 [] (start p) (λ o m. absurd m)).blocks

@@ -42,11 +42,11 @@ join_signed : (this : ℕ) (x : Block) (r q : Run) → ((x : Block) → Mem x r.
 join_signed this x r q h i (inl m) = h x m
 join_signed this x r q h i (inr m) = i x m
 
-signed_closed : (this : ℕ) (a : Lookup) → Closure this a a (AllSigned this)
-signed_closed this a = record {
+signed_closed : (p : Program) (this : ℕ) (a : Lookup) → Closure p this a a (AllSigned this)
+signed_closed p this a = record {
   ended = λ s x m. absurd m;
   halted = λ k ts x m. absurd m;
-  made = λ n path s t x m. made_signed this n path s t x m;
+  made = λ n path s acts t is x m. made_signed this n path s t x m;
   asked = λ n path k ks f g h x m. go_on_signed this (held a ks) _ _ g h x m;
   followed = λ k r q f g h i x m. after_signed this q g h i q.end x m;
   recelled = λ k f r q h x m. h x m;
@@ -54,4 +54,4 @@ signed_closed this a = record {
 }
 
 pub run_signed : (p : Program) (limit c : ℕ) (a : Lookup) (x : Block) → Mem x (run p limit c a).blocks → Signed c x
-run_signed p limit c a = list_kept p limit c a a (AllSigned c) (signed_closed c a) p.body 0 1 [] (start p)
+run_signed p limit c a = list_kept p limit c a a (AllSigned c) (signed_closed p c a) p.body 0 1 [] (start p)

@@ -224,11 +224,11 @@ module _ (all : List Block) (rise : Rising all) (mail : Lookup) (one : PlacesHav
   ask_sorted ks k as' ws f g h None p m = nothing
   ask_sorted ks k as' ws f g h (Some ms) p m = h ms (good_mail ks ms k p g) m
 
-  sorting_closed : (this : ℕ) → Closure this mail mail Sorting
-  sorting_closed this = record {
+  sorting_closed : (p : Program) (this : ℕ) → Closure p this mail mail Sorting
+  sorting_closed p this = record {
     ended = λ s g m. record { blocks = λ x j. absurd j; ends = λ e z. good_end s e g z };
     halted = λ k ts g m. nothing;
-    made = λ n path s t g m. made_sorted this n path s t g m;
+    made = λ n path s acts t is g m. made_sorted this n path s t g m;
     asked = λ n path k ks f g h d m. ask_sorted ks k _ _ g d h (held mail ks) refl m;
     followed = λ k r q f g h i d m. after_sorted q g (h d) i q.end refl m;
     recelled = λ k f r q h d m. cells_sorted q.blocks f q.end (h d m);
@@ -239,7 +239,7 @@ pub run_sorted : (p : Program) (limit c : ℕ) (mail : Lookup) → PlacesHaveOne
 run_sorted p limit c mail one =
     let all = (run p limit c mail).blocks in
     let rise = run_rising p limit c mail in
-    (list_kept p limit c mail mail (Sorting all rise mail one) (sorting_closed all rise mail one c) p.body 0 1 [] (start p)
+    (list_kept p limit c mail mail (Sorting all rise mail one) (sorting_closed all rise mail one p c) p.body 0 1 [] (start p)
     (record { known = λ c m. absurd m; after = tt; came = λ o m. absurd m; messages = tt }) (λ x m. m)).blocks
 
 -- ---- closed sets

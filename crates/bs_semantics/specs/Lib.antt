@@ -9,6 +9,7 @@ pub mod Growth
 pub mod Depth
 pub mod Spending
 pub mod Orderly
+pub mod Proper
 pub mod ClosedTest
 pub mod Starting
 pub mod Reached

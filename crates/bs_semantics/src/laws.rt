@@ -106,6 +106,17 @@ pub fn orderly()
     ensures one { (xs ys : List Block) → Rising xs → Rising ys → ((x : Block) → Mem x xs → Mem x ys) → ((x : Block) → Mem x ys → Mem x xs) → xs ≡ ys }
 {}
 
+ghost use Rattle.bs_semantics.specs.Proper.{IsProper};
+
+/// Every block costs from 1 to 2^32; its sends go to chares, have at most 2^30 bytes and offsets from
+/// 1 to the cost, and none is sent at an offset above that of a later one.
+///
+/// There is no premise on the program or on the mail. A program without chares counts as one that has
+/// chare 0.
+pub fn blocks()
+    ensures { (p : Program) (limit c : ℕ) (mail : Lookup) (x : Block) → Mem x (history p limit c mail).blocks → IsProper p x }
+{}
+
 ghost use Rattle.bs_semantics.specs.ClosedTest.{Passes};
 
 /// Closed histories pass a test that looks at them alone and not at the program's body (`passes`). The
