@@ -81,8 +81,8 @@ ghost use Rattle.bs_semantics.specs.Spending.{HasNoIdleLoop, IsUncut};
 /// The bound on the turns of a loop is never felt within the limit: a history whose size is at most
 /// the limit is the same under each greater limit.
 ///
-/// The premise is that no loop of the program is idle, which each accepted program meets: a turn that
-/// ends has made a block, so more turns than the limit make more blocks than the limit.
+/// The premise is that no loop of the program is idle: then a turn that ends has made a block, so more
+/// turns than the limit make more blocks than the limit.
 pub fn cut()
     ensures { (p : Program) → HasNoIdleLoop p → IsUncut p }
 {}
@@ -97,8 +97,7 @@ ghost use Rattle.bs_semantics.specs.Orderly.{IsOrderly, IsNumbered, PlacesHaveOn
 /// are fixed by which blocks they are (`one`).
 ///
 /// The causes of a block rise (`causes`), with the premise that the mail doesn't hold two messages
-/// from one place with two depths, which no mail of what histories send does.
-/// For the rest there is no premise on the program or on the mail.
+/// from one place with two depths. For the rest there is no premise on the program or on the mail.
 pub fn orderly()
     ensures histories { (p : Program) (limit c : ℕ) (mail : Lookup) → IsOrderly c mail (history p limit c mail) }
     ensures numbers { (p : Program) (limit c : ℕ) (mail : Lookup) → IsNumbered p (history p limit c mail) }
@@ -131,10 +130,10 @@ pub fn closed_sets()
 ghost use Rattle.bs_semantics.specs.Serial.{Started, histories_at, IsClean};
 ghost use Rattle.bs_semantics.specs.Starting.{AreBlocks, NoneEnabled, AllIn, IsWithinRound};
 
-/// Blocks are started in any order, each once its block causes are. Where they are blocks of the
-/// histories under what they sent, these histories are clean and no further block can be started, the
-/// histories are closed (`stuck`). And under any messages of the Clean round the histories are within
-/// that round, so they aren't too long, and nothing is sent or asked twice (`within`).
+/// Where blocks that were started, in any order, are blocks of the histories under what they sent, these
+/// histories are clean, and no further block can be started, the histories are closed (`stuck`). And
+/// under any messages of the Clean round the histories are within that round, so they aren't too long,
+/// and nothing is sent or asked twice (`within`).
 pub fn starting()
     ensures stuck { (p : Program) (limit : ℕ) (bs : List Started) → AreBlocks p limit bs → NoneEnabled p limit bs → IsClean p limit bs → Closed p limit (histories_at p limit bs) }
     ensures within { (p : Program) (limit n : ℕ) (ms : List Message) → CleanAt p limit n → AllIn ms (sent (round p limit n)) → IsWithinRound p limit n ms }
