@@ -1,5 +1,5 @@
 -- The serial machine model gives one answer: each step has one next block, and a state that has one isn't at its end.
-use Rattle.std.proofs.Common.{◌≡◌, ◌<◌, ◌≤◌, ℕ, List, [], ◌∷◌, refl, sym, ap, ◌∙◌, subst, arith, inl, inr}
+use Rattle.std.proofs.Common.{◌≡◌, ◌<◌, ◌≤◌, ℕ, List, ◌∷◌, refl, sym, ◌∙◌, subst, arith, inl, inr}
 use Rattle.std.specs.Prelude.{◌⊎◌}
 use Rattle.std.specs.Ordering.{nat_cmp}
 use Rattle.std.specs.Cmp.Lexicographic.{slice_cmp}
@@ -7,7 +7,7 @@ use Rattle.std.specs.declared.cmp.Ordering.TheVariants.{Less}
 use Rattle.std.proofs.lemmas.Cmp.{nat_list_cmp_total}
 use Rattle.bs_tree.specs.declared.tree.Program.{Program}
 use Rattle.bs_log.specs.declared.history.Block.{Block}
-use Rattle.bs_semantics.specs.Serial.{Machine, Started, Simulated, timed, unclean, Gives, stops, ends, starts, IsClean, IsEnabled, IsCandidate, IsNext, Earlier, ready, would_start, outcome}
+use Rattle.bs_semantics.specs.Serial.{Machine, Started, Simulated, Gives, stops, ends, starts, IsCandidate, IsNext, Earlier, would_start}
 
 not_both_less : (a b : List ℕ) → slice_cmp nat_cmp a b ≡ Less → slice_cmp nat_cmp b a ≡ Less → ⊥
 not_both_less a b l m = let e = nat_list_cmp_total.antisymm a b in cc

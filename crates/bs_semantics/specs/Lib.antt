@@ -5,3 +5,12 @@ pub mod Run
 pub mod Rounds
 pub mod Verdict
 pub mod Serial
+pub mod Growth
+pub mod Depth
+pub mod Spending
+pub mod Orderly
+pub mod Proper
+pub mod ClosedTest
+pub mod Starting
+pub mod Reached
+pub mod Examples
