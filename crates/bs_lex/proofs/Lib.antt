@@ -3,3 +3,5 @@ pub mod Steps
 pub mod Induction
 pub mod Spans
 pub mod Spelled
+pub mod FaultLemmas
+pub mod WrittenLemmas
