@@ -6,7 +6,6 @@ use Rattle.bs_desk.specs.declared.desk.Port.TheVariants as port
 use Rattle.bs_desk.specs.Outside.{Files}
 use Rattle.bs_lex.specs.declared.token.Token.{Token}
 use Rattle.bs_lex.specs.Lexed.{lexed}
-use Rattle.bs_lex.specs.Symbols.{symbols}
 use Rattle.bs_log.specs.declared.outcome.End.{End}
 use Rattle.bs_log.specs.declared.outcome.End.TheVariants as end
 use Rattle.bs_log.specs.declared.outcome.Outcome.{Outcome}
@@ -19,6 +18,7 @@ use Rattle.bs_small.specs.declared.form.Small.{Small}
 use Rattle.bs_small.specs.Form.{program_of}
 use Rattle.bs_small.specs.Machine.{flat}
 use Rattle.bs_small.specs.Spelled.{Spells}
+use Rattle.bs_small.specs.Symbols.{symbols}
 use Rattle.bs_top.specs.declared.status.Status.{Status}
 use Rattle.bs_top.specs.declared.status.Status.TheVariants as status
 use Rattle.bs_top.specs.Words.{Asked}

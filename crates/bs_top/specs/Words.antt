@@ -1,5 +1,5 @@
 -- What the words of a command line ask for (docs/output.md).
-use Rattle.std.specs.Prelude.{ℕ, ◌+◌, ◌==◌, nat_le, nat_lt, Bool, true, false, not, ◌&&◌, List, [], ◌∷◌, length, take, drop, take_while, Option, Some, None, option_map, Result, Ok, Err, if◌then◌else◌, codes}
+use Rattle.std.specs.Prelude.{ℕ, ◌+◌, ◌==◌, nat_le, nat_lt, Bool, true, false, not, ◌&&◌, List, [], ◌∷◌, length, take, drop, take_while, Option, Some, None, Result, Ok, Err, if◌then◌else◌, codes}
 use Rattle.std.specs.Str.{bytes_eq}
 use Rattle.bs_num.specs.declared.fault.NumFault.{NumFault}
 use Rattle.bs_num.specs.Decimal.{number_in}
@@ -52,10 +52,14 @@ abbrev pub is_name : List ℕ → Bool
 is_name [] = false
 is_name (first ∷ rest) = not (first == 45)
 
+abbrev pub asked_on : List ℕ → Option FlatMachine → Option Asked
+asked_on program None = None
+asked_on program (Some m) = Some (record { program = program; processors = m.processors; latency = m.latency })
+
+abbrev pub asked_by_three : List ℕ → List ℕ → List ℕ → Option Asked
+asked_by_three verb program machine = if bytes_eq verb (codes "model") && is_name program then asked_on program (flat_machine machine) else None
+
 -- `model PROG flat:P:L`, and nothing else
 abbrev pub asked_by : List (List ℕ) → Option Asked
-asked_by (verb ∷ program ∷ machine ∷ []) =
-    if bytes_eq verb (codes "model") && is_name program
-    then option_map (λ (m : FlatMachine). record { program = program; processors = m.processors; latency = m.latency }) (flat_machine machine)
-    else None
+asked_by (verb ∷ program ∷ machine ∷ []) = asked_by_three verb program machine
 asked_by _ = None

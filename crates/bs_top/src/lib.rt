@@ -9,6 +9,3 @@ mod words;
 
 pub use perform::perform_alone;
 pub use status::Status;
-
-#[cfg(test)]
-mod tests;

@@ -71,14 +71,10 @@ enum Computed {
 fn compute(alloc: Global, text: &[u8], machine: &Flat) -> Result<Computed, AllocError>
     ensures { IfOk result (IsComputed text.now machine.now) }
 {
-    match small_program(alloc, text)? {
-        Some(small) => predict(alloc, &small, machine),
-        None => Ok(Computed::NotBuilt),
-    }
-}
-
-fn predict(alloc: Global, small: &Small, machine: &Flat) -> Result<Computed, AllocError> {
-    let outcome = run(alloc, small, machine)?;
+    let Some(small) = small_program(alloc, text)? else {
+        return Ok(Computed::NotBuilt);
+    };
+    let outcome = run(alloc, &small, machine)?;
     let report = report(alloc, &outcome)?;
     Ok(Computed::Report(status_of(end(&outcome)), report))
 }

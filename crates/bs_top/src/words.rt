@@ -1,6 +1,6 @@
 // Reads the words of a command line: so far `model PROG flat:P:L` alone.
-ghost use Rattle.std.specs.Prelude.{◌≡◌, ◌==◌, ◌≤◌, length, take, drop, map, option_map, string_bytes};
-ghost use Rattle.bs_top.specs.Words.{asked_by, colon_place, flat_machine, flat_numbers, is_name as is_name_of, latency_in, processors_in};
+ghost use Rattle.std.specs.Prelude.{◌≡◌, ◌+◌, ◌<◌, ◌≤◌, ◌^◌, IfSome, length, take, drop, map, option_map, string_bytes};
+ghost use Rattle.bs_top.specs.Words.{asked_by, asked_by_three, colon_place, flat_machine, flat_numbers, is_name as is_name_of, latency_in, processors_in};
 ghost use Rattle.bs_top.specs.Seen.{asked_of, machine_of};
 
 use bs_num::read_decimal;
@@ -18,16 +18,19 @@ pub(crate) fn read_words(words: &[String]) -> Option<Command<'_>>
     ensures { option_map asked_of result ≡ asked_by (map string_bytes words.now) }
 {
     match words {
-        [verb, program, machine] if verb.as_str() == "model" && is_name(program.as_str()) => {
-            command(program.as_str(), machine.as_str())
+        [verb, program, machine] => {
+            read_three(verb.as_str(), program.as_str(), machine.as_str())
         }
         _ => None,
     }
 }
 
-fn command<'a>(program: &'a str, machine: &str) -> Option<Command<'a>>
-    ensures { option_map asked_of result ≡ option_map (λ m. record { program = program.now; processors = m.processors; latency = m.latency }) (flat_machine machine.now) }
+fn read_three<'a>(verb: &str, program: &'a str, machine: &str) -> Option<Command<'a>>
+    ensures { option_map asked_of result ≡ asked_by_three verb.now program.now machine.now }
 {
+    if !(verb == "model" && is_name(program)) {
+        return None;
+    }
     match read_machine(machine) {
         Some(machine) => Some(Command { program, machine }),
         None => None,

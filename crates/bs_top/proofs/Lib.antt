@@ -1,0 +1,4 @@
+mod Lengths
+mod Texts
+mod Kept
+mod Told
