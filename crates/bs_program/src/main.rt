@@ -14,6 +14,7 @@ use std::rt::Env;
 
 // The exit codes of a program that has no words.
 const NO_MEMORY: u8 = 30;
+
 const NO_TEXT: u8 = 1;
 
 fn main(rt: HostRuntime) -> ExitCode {

@@ -9,3 +9,6 @@ mod words;
 
 pub use perform::perform_alone;
 pub use status::Status;
+
+#[cfg(test)]
+mod tests;
