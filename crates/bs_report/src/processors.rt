@@ -24,7 +24,9 @@ pub(crate) struct Load {
 /// a block ran.
 pub fn each_processor_once()
     ensures rises { (rows : List OutRow) → IsStrictlyIncreasing (processors_of rows) }
-    ensures exact { (rows : List OutRow) (p : ℕ) → list_any (λ q. q == p) (processors_of rows) ≡ list_any (λ row. row.processor == p) rows }
+    ensures exact { (rows : List OutRow) (p : ℕ) →
+        list_any (λ q. q == p) (processors_of rows) ≡
+        list_any (λ row. row.processor == p) rows }
 {}
 
 /// What each processor that has a block did.
@@ -60,7 +62,8 @@ pub(crate) fn write_loads(
     span: u128,
 ) -> Result<(), AllocError>
     requires { All (IsShare span) loads.now.entries }
-    ensures { OnOk result (string_bytes text.new ≡ string_bytes text.old ++ flat_map (load_line span) loads.now.entries) }
+    ensures { OnOk result (string_bytes text.new ≡
+        string_bytes text.old ++ flat_map (load_line span) loads.now.entries) }
 {
     for (processor, load) in loads {
         write_load(text, *processor, *load, span)?;
@@ -70,7 +73,8 @@ pub(crate) fn write_loads(
 
 fn write_load(text: &mut String, processor: u32, load: Load, span: u128) -> Result<(), AllocError>
     requires { IsShare span (processor, load) }
-    ensures { OnOk result (string_bytes text.new ≡ string_bytes text.old ++ load_line span (processor, load)) }
+    ensures { OnOk result (string_bytes text.new ≡
+        string_bytes text.old ++ load_line span (processor, load)) }
 {
     let share = 10_000 * load.busy / span;
     writeln!(

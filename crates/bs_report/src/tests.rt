@@ -108,6 +108,46 @@ proc 1 blocks 2 busy 7 use 5833
     expect(&rt, &outcome, End::Settled, want)
 }
 
+// Three blocks that are ready at once on one processor.
+#[test]
+fn ties(rt: HostRuntime) -> Result<(), Fail> {
+    let blocks = [
+        Ran(0, 1, 0, 0, 2, None),
+        Ran(1, 1, 0, 2, 4, None),
+        Ran(2, 1, 0, 4, 6, None),
+    ];
+    let outcome = outcome(rt.alloc(), &blocks, &[], &[])?;
+    let want = "status settled
+block 1 chare 0 stmt 1 proc 0 start 0 end 2
+block 2 chare 1 stmt 1 proc 0 start 2 end 4
+block 3 chare 2 stmt 1 proc 0 start 4 end 6
+span 6
+proc 0 blocks 3 busy 6 use 10000
+";
+    expect(&rt, &outcome, End::Settled, want)
+}
+
+// A message that arrives before it is asked for.
+#[test]
+fn a_buffered_message(rt: HostRuntime) -> Result<(), Fail> {
+    let blocks = [
+        Ran(0, 2, 0, 0, 4, None),
+        Ran(1, 3, 1, 0, 21, None),
+        Ran(1, 5, 1, 21, 24, Some(5)),
+    ];
+    let outcome = outcome(rt.alloc(), &blocks, &[], &[])?;
+    let want = "status settled
+block 1 chare 0 stmt 2 proc 0 start 0 end 4
+block 2 chare 1 stmt 3 proc 1 start 0 end 21
+block 3 chare 1 stmt 5 proc 1 start 21 end 24
+value 5
+span 24
+proc 0 blocks 1 busy 4 use 1666
+proc 1 blocks 2 busy 24 use 10000
+";
+    expect(&rt, &outcome, End::Settled, want)
+}
+
 // The second processor comes first, and runs between the blocks of the other.
 #[test]
 fn processors_rise(rt: HostRuntime) -> Result<(), Fail> {

@@ -28,7 +28,8 @@ fn status(end: End) -> &'static str
 
 // Each block with its values, numbered from 1.
 fn write_blocks(text: &mut String, rows: &[OutRow]) -> Result<(), AllocError>
-    ensures { OnOk result (string_bytes text.new ≡ string_bytes text.old ++ block_lines 1 rows.now) }
+    ensures { OnOk result (string_bytes text.new ≡
+        string_bytes text.old ++ block_lines 1 rows.now) }
 {
     for (index, row) in rows.iter().enumerate() {
         write_block(text, index + 1, row)?;
@@ -38,7 +39,8 @@ fn write_blocks(text: &mut String, rows: &[OutRow]) -> Result<(), AllocError>
 }
 
 fn write_block(text: &mut String, number: usize, row: &OutRow) -> Result<(), AllocError>
-    ensures { OnOk result (string_bytes text.new ≡ string_bytes text.old ++ block_line number row.now) }
+    ensures { OnOk result (string_bytes text.new ≡
+        string_bytes text.old ++ block_line number row.now) }
 {
     writeln!(
         text,
@@ -48,7 +50,8 @@ fn write_block(text: &mut String, number: usize, row: &OutRow) -> Result<(), All
 }
 
 fn write_values(text: &mut String, values: &[i64]) -> Result<(), AllocError>
-    ensures { OnOk result (string_bytes text.new ≡ string_bytes text.old ++ flat_map value_line values.now) }
+    ensures { OnOk result (string_bytes text.new ≡
+        string_bytes text.old ++ flat_map value_line values.now) }
 {
     for value in values {
         writeln!(text, "value {value}")?;
@@ -57,7 +60,8 @@ fn write_values(text: &mut String, values: &[i64]) -> Result<(), AllocError>
 }
 
 fn write_traps(text: &mut String, traps: &[TrapRow]) -> Result<(), AllocError>
-    ensures { OnOk result (string_bytes text.new ≡ string_bytes text.old ++ flat_map trap_line traps.now) }
+    ensures { OnOk result (string_bytes text.new ≡
+        string_bytes text.old ++ flat_map trap_line traps.now) }
 {
     for trap in traps {
         write_trap(text, trap)?;
@@ -88,7 +92,8 @@ fn word_of(kind: TrapKind) -> &'static str
 }
 
 fn write_waits(text: &mut String, waits: &[WaitRow]) -> Result<(), AllocError>
-    ensures { OnOk result (string_bytes text.new ≡ string_bytes text.old ++ flat_map wait_line waits.now) }
+    ensures { OnOk result (string_bytes text.new ≡
+        string_bytes text.old ++ flat_map wait_line waits.now) }
 {
     for wait in waits {
         write_wait(text, wait)?;
