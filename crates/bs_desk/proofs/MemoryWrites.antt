@@ -1,5 +1,5 @@
 -- What `create`, `put_file` and `write` make of the fields of a desk in memory.
-use Rattle.std.proofs.Common.{◌≡◌, ℕ, zero, suc, ◌+◌, ◌<◌, ◌≤◌, ◌-◌, Bool, true, false, cond, List, [], ◌∷◌, ◌++◌, length, take, drop, Option, Some, None, option_map, is_some, refl, sym, ap, subst, ◌∙◌, arith, length-append, length-drop}
+use Rattle.std.proofs.Common.{◌≡◌, ℕ, zero, suc, ◌≤◌, ◌-◌, Bool, true, false, cond, List, [], ◌∷◌, ◌++◌, length, take, drop, Option, Some, None, option_map, is_some, refl, sym, ap, subst, ◌∙◌, arith, length-append, length-drop}
 use Rattle.std.proofs.lemmas.List.{drop-append-le, take-append-le}
 use Rattle.std.proofs.lemmas.Cmp.{nat_list_cmp_total}
 use Rattle.std.specs.Prelude.{IfSome}
@@ -10,7 +10,7 @@ use Rattle.bs_desk.specs.declared.memory.MemoryDesk.TheInside.{Inside}
 use Rattle.bs_desk.specs.declared.memory.Opened.{Opened}
 use Rattle.bs_desk.specs.declared.versions.Version.{Version}
 use Rattle.bs_desk.specs.declared.desk.Port.TheVariants as port
-use Rattle.bs_desk.specs.Outside.{Files, longer_by, extended_by, with_contents, with_created, written}
+use Rattle.bs_desk.specs.Outside.{longer_by, extended_by, with_contents, with_created, written}
 use Rattle.bs_desk.specs.Versions.{Seen, seen_of, same_name, or_else, found, files_of, IsNewest, bytes_at, name_at, lengthened, moved}
 use Rattle.bs_desk.specs.Memory.{outside_of, rest_of, IsPlace, IsSound}
 use Rattle.bs_desk.proofs.WrittenLemmas.{append_none, same_files}

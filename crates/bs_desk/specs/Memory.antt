@@ -1,5 +1,5 @@
 -- What the fields of a desk in memory mean, and what is always true of them.
-use Rattle.std.specs.Prelude.{◌≡◌, ◌≤◌, ◌<◌, ◌-◌, ℕ, List, length, take, drop, false, Option, Some, None, IfSome, is_some, option_map}
+use Rattle.std.specs.Prelude.{◌≤◌, ◌<◌, ◌-◌, ℕ, List, length, take, drop, false, Option, Some, None, IfSome, is_some, option_map}
 use Rattle.bs_desk.specs.declared.memory.MemoryDesk.TheInside.{Inside}
 use Rattle.bs_desk.specs.declared.memory.Opened.{Opened}
 use Rattle.bs_desk.specs.Outside.{Outside}

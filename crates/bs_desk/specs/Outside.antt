@@ -6,7 +6,7 @@ use Rattle.std.specs.FinMap as map
 use Rattle.bs_desk.specs.declared.desk.Port.{Port}
 use Rattle.bs_desk.specs.declared.desk.Port.TheVariants as port
 use Rattle.bs_desk.specs.declared.desk.DeskFault.{DeskFault}
-use Rattle.bs_desk.specs.declared.desk.DeskFault.TheVariants.{Failed, Memory}
+use Rattle.bs_desk.specs.declared.desk.DeskFault.TheVariants.{Failed}
 
 -- files: contents by name, both as bytes
 abbrev pub Files : Type 0
@@ -144,10 +144,10 @@ abbrev pub contents_of : List ℕ → Outside → Option (List ℕ)
 contents_of name o = option_and_then (λ files. map.get files name) o.files
 
 -- the bytes that were written to that port
-abbrev pub bytes_at : Port → Outside → List ℕ
-bytes_at port.Out o = o.out
-bytes_at port.Err o = o.err
-bytes_at port.File o = o.file
+abbrev pub bytes_written : Port → Outside → List ℕ
+bytes_written port.Out o = o.out
+bytes_written port.Err o = o.err
+bytes_written port.File o = o.file
 
 -- the outside of a desk that tells no content, before its first call
 abbrev pub untold : Outside

@@ -1,5 +1,5 @@
 -- A whole file is read, and a whole text is written, over any desk.
-use Rattle.std.specs.Prelude.{◌≡◌, ◌≤◌, ◌<◌, ◌+◌, ◌^◌, ℕ, min, true, IsTrue, List, [], ◌++◌, length, take, drop, Option, Some, None, IfSome, option_map, Result, Ok, Err, ◌⊎◌}
+use Rattle.std.specs.Prelude.{◌≡◌, ◌≤◌, ◌<◌, ◌+◌, ℕ, min, true, IsTrue, List, [], ◌++◌, length, take, drop, Some, IfSome, option_map, Result, Ok, Err, ◌⊎◌}
 use Rattle.std.specs.declared.vec.Vec.{Vec}
 use Rattle.std.specs.declared.alloc.Global.{Global}
 use Rattle.std.specs.FinMap as map
@@ -8,7 +8,7 @@ use Rattle.bs_desk.specs.declared.desk.DeskFault.{DeskFault}
 use Rattle.bs_desk.specs.declared.desk.DeskFault.TheVariants as desk
 use Rattle.bs_desk.specs.declared.whole.ReadAllFault.{ReadAllFault}
 use Rattle.bs_desk.specs.declared.whole.ReadAllFault.TheVariants as fault
-use Rattle.bs_desk.specs.Outside.{Outside, Files, Rose, Misses, IsReading, written, most}
+use Rattle.bs_desk.specs.Outside.{Outside, Rose, Misses, IsReading, written, most}
 
 -- these are all bytes of the file, no more than the limit, and nothing of it is left
 pub record IsWhole (name : List ℕ) (limit : ℕ) (old new : Outside) (bytes : List ℕ) : Type 0 where

@@ -1,6 +1,6 @@
 // A desk in memory, which tells its files.
 ghost use Rattle.std.specs.Prelude.{◌≡◌, ◌≢◌, ◌≤◌, [], Err, IfOk, IsTrue, OnErr, OnOk, length, min, option_map, unwrap_or};
-ghost use Rattle.bs_desk.specs.Outside.{MayWrite, Opens, Reads, Creates, Writes, bytes_at, contents_of, with_contents};
+ghost use Rattle.bs_desk.specs.Outside.{MayWrite, Opens, Reads, Creates, Writes, bytes_written, contents_of, with_contents};
 ghost use Rattle.bs_desk.specs.InMemory.{empty_desk};
 
 use crate::desk::{Desk, DeskFault, Port};
@@ -96,7 +96,7 @@ impl MemoryDesk {
 
     /// All bytes that were written to the port. It takes no memory.
     pub fn written(&self, port: Port) -> &[u8]
-        ensures { result.now ≡ bytes_at port self.now.outside }
+        ensures { result.now ≡ bytes_written port self.now.outside }
     {
         match port {
             Port::Out => &self.out,

@@ -1,4 +1,4 @@
-use Rattle.std.proofs.Common.{◌≡◌, ◌+◌, ◌<◌, ◌∷◌, [], ◌++◌, Some, Bool, true, false, ℕ, List, Option, take, length, get_or, sym, subst, ap, ◌∙◌, arith, length-take}
+use Rattle.std.proofs.Common.{◌≡◌, ◌+◌, ◌<◌, ◌∷◌, [], ◌++◌, Some, true, false, ℕ, List, Option, take, length, get_or, sym, subst, ap, ◌∙◌, arith, length-take}
 use Rattle.bs_desk.specs.declared.versions.Version.{Version}
 use Rattle.bs_desk.specs.Versions.{seen_of, same_name, IsNewest}
 use Rattle.bs_desk.proofs.VersionLemmas.{IsSought, newest_last, sought_other, seen_of-take, length-seen_of}

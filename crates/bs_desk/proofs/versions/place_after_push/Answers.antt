@@ -1,6 +1,6 @@
-use Rattle.std.proofs.Common.{◌≡◌, ◌<◌, Bool, true, false, cond, ℕ, List, Option, Some, refl, length, get_or, sym, ap, subst, ◌∙◌}
+use Rattle.std.proofs.Common.{◌≡◌, ◌<◌, Bool, true, false, cond, ℕ, List, Option, Some, length, get_or, sym, ap, ◌∙◌}
 use Rattle.bs_desk.specs.declared.versions.Version.{Version}
-use Rattle.bs_desk.specs.Versions.{seen_of, same_name, name_at, moved}
+use Rattle.bs_desk.specs.Versions.{seen_of, same_name, moved}
 use Rattle.bs_desk.proofs.VersionLemmas.{name_at-seen_of, length-seen_of}
 use Rattle.bs_desk.proofs.versions.place_after_push.Goals as goal
 

@@ -1,4 +1,4 @@
-use Rattle.std.proofs.Common.{◌≡◌, ◌≤◌, ◌+◌, ◌-◌, length}
+use Rattle.std.proofs.Common.{◌≤◌, ◌+◌, ◌-◌, length}
 use Rattle.bs_desk.proofs.Parts.{IsPart}
 use Rattle.bs_desk.proofs.whole.read_all.Given as goal
 

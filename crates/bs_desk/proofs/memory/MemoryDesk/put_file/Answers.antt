@@ -1,4 +1,4 @@
-use Rattle.std.proofs.Common.{List, ℕ, Option, Some, None, ap, sym, subst, ◌∙◌, ◌≡◌, ◌<◌, length}
+use Rattle.std.proofs.Common.{List, ap, sym, subst, ◌∙◌, ◌<◌, length}
 use Rattle.std.specs.Prelude.{IfSome}
 use Rattle.bs_desk.specs.declared.versions.Version.{Version}
 use Rattle.bs_desk.specs.InMemory.{InMemory}

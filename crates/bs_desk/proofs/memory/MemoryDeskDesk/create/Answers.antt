@@ -1,4 +1,4 @@
-use Rattle.std.proofs.Common.{◌≡◌, ap, ◌∙◌, arith, length}
+use Rattle.std.proofs.Common.{◌≡◌, arith, length}
 use Rattle.bs_desk.specs.Versions.{seen_of}
 use Rattle.bs_desk.proofs.VersionLemmas.{length-seen_of}
 use Rattle.bs_desk.proofs.MemoryWrites.{creates, create_sound}

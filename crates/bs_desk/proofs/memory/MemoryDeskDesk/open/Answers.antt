@@ -1,4 +1,4 @@
-use Rattle.std.proofs.Common.{List, ap, sym, ◌∙◌, ◌≡◌, ◌<◌, arith, length}
+use Rattle.std.proofs.Common.{List, ap, ◌∙◌, ◌≡◌, arith, length}
 use Rattle.bs_desk.specs.declared.versions.Version.{Version}
 use Rattle.bs_desk.specs.Versions.{seen_of, IsNewest, bytes_at, found}
 use Rattle.bs_desk.proofs.VersionLemmas.{length-seen_of, newest_within}
