@@ -141,7 +141,7 @@ pub fn starting()
 
 ghost use Rattle.bs_semantics.specs.Serial.{IsSerial, Machine, Simulated};
 
-/// The serial machine model gives one answer for a program, a limit and a machine.
+/// The serial machine model gives at most one answer for a program, a limit and a machine.
 pub fn one_serial()
     ensures { (p : Program) (limit : ℕ) (m : Machine) (r s : Simulated) → IsSerial p limit m r → IsSerial p limit m s → r ≡ s }
 {}

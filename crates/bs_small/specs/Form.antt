@@ -35,12 +35,13 @@ abbrev pub Distinct : List ℤ → Type 0
 Distinct [] = Unit {0}
 Distinct (r ∷ rs) = (IsIn r rs → ⊥) × Distinct rs
 
--- an amount of work is at most 2^20, and a number in a text isn't negative
+-- a number in a text isn't negative
 abbrev pub IsGiven : Given → Type 0
 IsGiven (given.Number n) = (v : ℕ) × (n ≡ pos v)
 IsGiven given.Variable = Unit {0}
 IsGiven given.This = Unit {0}
 
+-- an amount of work is at most 2^20
 abbrev pub IsSmallAct : SmallAct → Type 0
 IsSmallAct (Work n) = n ≤ 1048576
 IsSmallAct (Emit g) = IsGiven g

@@ -1,5 +1,5 @@
 -- The flat machine: chares go round its processors, each message takes one latency, and a cost unit is a tick
--- (docs/machine-file.md).
+-- (docs/model.md).
 use Rattle.std.specs.Prelude.{ℕ, ◌%◌}
 use Rattle.bs_semantics.specs.Serial.{Machine}
 use Rattle.bs_small.specs.declared.flat.Flat.{Flat}

@@ -1,5 +1,5 @@
 -- What reading and then writing leaves as it was.
-use Rattle.std.proofs.Common.{◌≡◌, ℕ, List, [], ◌++◌, refl, sym, ap, ap₂, ◌∙◌, append-nil, Option, Some, None}
+use Rattle.std.proofs.Common.{◌≡◌, ℕ, List, [], refl, sym, ap, ap₂, ◌∙◌, append-nil, Option, Some, None}
 use Rattle.bs_desk.specs.declared.desk.Port.{Port}
 use Rattle.bs_desk.specs.declared.desk.Port.TheVariants as port
 use Rattle.bs_desk.specs.Outside.{Outside, IsReading, written, more_told, extended_by}

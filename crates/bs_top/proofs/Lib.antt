@@ -2,3 +2,4 @@ mod Lengths
 mod Texts
 mod Kept
 mod Told
+mod OneAnswer

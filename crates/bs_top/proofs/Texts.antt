@@ -1,6 +1,6 @@
 -- What is read of a text, and what is replied to it.
-use Rattle.std.proofs.Common.{◌≡◌, ℕ, List, refl, sym, ap, ◌∙◌, subst, inl, inr, Option, Some, None, Result, Ok, Err}
-use Rattle.std.specs.Prelude.{◌⊎◌, IfOk, MatchOption}
+use Rattle.std.proofs.Common.{◌≡◌, ℕ, List, subst, inl, inr, Option, Some, None, Result, Ok, Err}
+use Rattle.std.specs.Prelude.{IfOk, MatchOption}
 use Rattle.std.specs.declared.alloc.AllocError.{AllocError}
 use Rattle.bs_desk.specs.declared.desk.Port.TheVariants as port
 use Rattle.bs_desk.specs.Outside.{Outside}
@@ -15,10 +15,8 @@ use Rattle.bs_small.specs.Spelled.{Spells, IsNotSmall}
 use Rattle.bs_small.specs.Symbols.{symbols}
 use Rattle.bs_top.specs.declared.status.Status.{Status}
 use Rattle.bs_top.specs.declared.status.Status.TheVariants as status
-use Rattle.bs_top.specs.declared.perform.Computed.{Computed}
-use Rattle.bs_top.specs.declared.perform.Computed.TheVariants.{NotBuilt, Report}
-use Rattle.bs_top.specs.Answer.{IsSmallText, IsNoSmallText, refused}
-use Rattle.bs_top.specs.Steps.{IsRead, IsReport, IsComputed, Says, Refuses, Replies, not_built, reported}
+use Rattle.bs_top.specs.Answer.{IsNoSmallText, refused}
+use Rattle.bs_top.specs.Steps.{IsRead, IsReport, Says, Refuses, Replies, not_built, reported}
 
 abbrev Lexed : Type 0
 Lexed = Result (List Token) LexFault
@@ -26,7 +24,7 @@ Lexed = Result (List Token) LexFault
 tokens_are : (r : Lexed) (xs ys : List Token) → r ≡ Ok xs → r ≡ Ok ys → xs ≡ ys
 tokens_are r xs ys a b = cc
 
-one_list : (text : List ℕ) (xs ys : List Token) → lexed text ≡ Ok xs → lexed text ≡ Ok ys → xs ≡ ys
+pub one_list : (text : List ℕ) (xs ys : List Token) → lexed text ≡ Ok xs → lexed text ≡ Ok ys → xs ≡ ys
 one_list text xs ys a b = tokens_are (lexed text) xs ys a b
 
 no_small_text : (text : List ℕ) (tokens : List Token) → lexed text ≡ Ok tokens → IsNotSmall (symbols text tokens) → IsNoSmallText text

@@ -1,5 +1,5 @@
 -- Each way through a command gives the answer that its definition gives.
-use Rattle.std.proofs.Common.{◌≡◌, ◌≤◌, ◌<◌, ◌+◌, ℕ, List, [], length, take, refl, sym, ap, ◌∙◌, subst, inl, inr, Option, Some, None}
+use Rattle.std.proofs.Common.{◌≡◌, ◌≤◌, ℕ, List, [], length, take, refl, sym, ap, ◌∙◌, subst, inl, inr, Option, Some, None}
 use Rattle.std.specs.Prelude.{◌⊎◌, IfSome, IsTrue}
 use Rattle.std.specs.FinMap as map
 use Rattle.bs_desk.specs.declared.desk.Port.TheVariants as port
@@ -16,7 +16,7 @@ use Rattle.bs_top.specs.declared.status.Status.{Status}
 use Rattle.bs_top.specs.declared.status.Status.TheVariants as status
 use Rattle.bs_top.specs.Words.{Asked}
 use Rattle.bs_top.specs.Answer.{Answer, IsAnswer, bad_words, no_file, too_big, not_built, ran, refused, status_of, program_limit}
-use Rattle.bs_top.specs.Performs.{Answers, Keeps, WritesFront, WritesAnswer}
+use Rattle.bs_top.specs.Performs.{Answers, WritesFront, WritesAnswer}
 use Rattle.bs_top.specs.Steps.{IsAnswerTo, IsReport, Says, IsCutOff, Refuses, Replies, GivesAnswer}
 use Rattle.bs_top.specs.Steps as steps
 use Rattle.bs_top.proofs.Kept.{kept_after, kept_reading, kept_silent}

@@ -1,6 +1,5 @@
 -- What performing a command does to the outside (docs/promises.md).
-use Rattle.std.specs.Prelude.{◌≡◌, ◌≤◌, ◌+◌, ◌⊎◌, ℕ, true, false, IsTrue, List, length, take, Option, Some, None, IsSome, IfSome}
-use Rattle.bs_desk.specs.declared.desk.Port.{Port}
+use Rattle.std.specs.Prelude.{◌≡◌, ◌≤◌, ◌+◌, ◌⊎◌, ℕ, true, false, IsTrue, length, take, Option, None, IsSome}
 use Rattle.bs_desk.specs.Outside.{Outside, Files, Rose, written}
 use Rattle.bs_top.specs.declared.status.Status.{Status}
 use Rattle.bs_top.specs.declared.status.Status.TheVariants as status

@@ -1,5 +1,4 @@
 -- What a contract sees of a command that was read.
-use Rattle.std.specs.Prelude.{ℕ, List}
 use Rattle.bs_small.specs.declared.flat.Flat.{Flat}
 use Rattle.bs_top.specs.declared.words.Command.{Command}
 use Rattle.bs_top.specs.Words.{Asked, FlatMachine}

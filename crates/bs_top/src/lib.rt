@@ -3,6 +3,7 @@
 //! `docs/promises.md` says what it promises, `docs/output.md` what is written.
 #![tactic(auto)]
 
+pub mod laws;
 mod perform;
 mod status;
 mod words;
