@@ -84,6 +84,10 @@ fn the_longest_mark_is_taken(rt: HostRuntime) {
 fn the_first_fault_is_told_with_its_place(rt: HostRuntime) {
     let texts: [(&[u8], LexFault); 16] = [
         (b"08", LexFault::BadNumber(0)),
+        (
+            b"chares 1; body { serial { x = 08; } }",
+            LexFault::BadNumber(30),
+        ),
         (b" 007", LexFault::BadNumber(1)),
         (b"x = -9223372036854775808;", LexFault::BadNumber(5)),
         (b"08 #", LexFault::BadNumber(0)),

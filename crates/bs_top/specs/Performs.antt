@@ -10,7 +10,7 @@ use Rattle.bs_top.specs.Answer.{Answer, IsAnswer, program_limit}
 abbrev pub Keeps : Outside → Outside → Type 0
 Keeps old new = new ≡ record old { rest = new.rest; is_open = new.is_open; found = new.found; taken = new.taken; read_faults = new.read_faults; write_faults = new.write_faults }
 
--- the file of the program was found and read whole
+-- the file of the program was found, and no more than the limit was read of it
 pub record ReadsWhole (asked : Option Asked) (new : Outside) : Type 0 where
   pub command : IsSome asked
   pub found : new.found ≡ true

@@ -22,8 +22,9 @@ const PROGRAM_LIMIT: u64 = 1_048_576;
 
 /// Does what the words ask for, and says how it ended. The words don't hold the program's own name.
 ///
-/// It writes one text: a report to standard output, or the line of a refusal to standard error.
-/// `docs/promises.md` says when each status comes, and what is then written.
+/// It writes one text: a report to standard output, or the line of a refusal to standard error. What
+/// is written is known where the desk tells the contents of its files. `docs/promises.md` says when
+/// each status comes, and what is then written.
 pub fn perform_alone<D: Desk>(alloc: Global, words: &[String], desk: &mut D) -> Status
     ensures cause { Cause (asked_by (map string_bytes words.now)) (D.world desk.old) (D.world desk.new) result }
     ensures told { IfSome (D.world desk.old).files (λ files. Answers files (asked_by (map string_bytes words.now)) (D.world desk.old) (D.world desk.new) result) }
