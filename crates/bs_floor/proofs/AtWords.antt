@@ -1,8 +1,7 @@
 -- The steps at a word's number as the code computes it, and what a seat knows between them.
 use Rattle.std.proofs.Common.{◌≡◌, ℕ, ◌+◌, ◌%◌, ◌<◌, ◌≤◌, [], ◌∷◌, length, refl, sym, ap, ◌∙◌, subst}
 use Rattle.std.specs.Prelude.{Some, slice_get}
-use mathlib.Core.Option.{some, none}
-use lib.ListN.{get_elem?}
+use mathlib.Core.Option.{none}
 use Rattle.atomic_table.specs.Table.{step, Allows}
 use Rattle.bs_floor.specs.declared.cell.Cell.{Cell}
 use Rattle.bs_floor.specs.declared.view.Setup.{Setup}

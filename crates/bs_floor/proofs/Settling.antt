@@ -1,5 +1,5 @@
 -- From the counts of what stands in one list to the sentences on all seats' lists.
-use Rattle.std.proofs.Common.{◌≡◌, ◌≢◌, ℕ, zero, suc, ◌+◌, ◌<◌, ◌≤◌, List, [], ◌∷◌, ◌++◌, length, take, refl, sym, ap, ◌∙◌, subst, arith}
+use Rattle.std.proofs.Common.{◌≡◌, ℕ, zero, suc, ◌+◌, ◌≤◌, List, [], ◌∷◌, ◌++◌, length, refl, sym, ap, ◌∙◌, subst, arith}
 use Rattle.std.specs.Prelude.{Some, slice_get}
 use mathlib.Core.Logic.{dite}
 use native.Mathlib.Decide.{dec_le, ℕ_discrete}
@@ -8,10 +8,10 @@ use Rattle.bs_floor.specs.declared.cell.Cell.{Cell}
 use Rattle.bs_floor.specs.declared.view.Setup.{Setup}
 use Rattle.bs_floor.specs.declared.view.Entry.{Entry}
 use Rattle.bs_floor.specs.declared.station.Station as Station
-use Rattle.bs_floor.specs.Counting.{bit, below, total, is_at, count, entry, Each}
-use Rattle.bs_floor.specs.History.{IsCellOf, IsServeOf, IsHistory, AreSends}
-use Rattle.bs_floor.specs.Closing.{joined_lists, IsEntryAt, NoTwoAlike, StandsOnce, PostIsKept, ServeIsKept, Settled, PostEnds, ServeEnds, Accounted}
-use Rattle.bs_floor.proofs.Lookups.{Some-injective, none_some, as_there, item_below, item_is}
+use Rattle.bs_floor.specs.Counting.{below, total, is_at, count, Each}
+use Rattle.bs_floor.specs.History.{IsCellOf, IsHistory, AreSends}
+use Rattle.bs_floor.specs.Closing.{joined_lists, IsEntryAt, NoTwoAlike, StandsOnce, Settled, PostEnds, ServeEnds, Accounted}
+use Rattle.bs_floor.proofs.Lookups.{Some-injective, none_some, as_there, item_below}
 use Rattle.bs_floor.proofs.Sums.{total_has, total_two, below_yes, below_no, count_append, at_other, at_same, bit_other, bit_same}
 
 module _ {V : Type 0} (f : V → ℕ) where

@@ -6,7 +6,6 @@ use Rattle.bs_floor.specs.declared.station.Bound.{Bound}
 use Rattle.bs_floor.specs.declared.cell.Cell.{Cell}
 use Rattle.bs_floor.specs.declared.view.SeatView.{SeatView}
 use Rattle.bs_floor.specs.declared.view.Setup.{Setup}
-use Rattle.bs_floor.specs.declared.view.Look.{Look}
 use Rattle.bs_floor.specs.declared.view.Look.TheVariants.{Held, Counts}
 use Rattle.bs_floor.specs.declared.answers.Served.{Served}
 use Rattle.bs_floor.specs.declared.answers.Position.{Position}
@@ -164,3 +163,23 @@ module _ {S J I : Type 0} (g : Station.Ghosts S J I) (setup : Setup S) where
             ap (λ m. m.0.numbers) put ∙ ap (λ m. m.0.numbers) it ∙ ap (λ m. m.0.numbers) got.now ∙ rest.3,
             rest.4 ∙ sym (ap (λ m. map Seats.position_of m.0.posts) put ∙ ap (λ m. map Seats.position_of m.0.posts) it ∙ ap (λ m. map Seats.position_of m.0.posts) got.now),
           )
+
+module _ {S J I : Type 0} (f : Seats.FloorValue S) (k : ℕ) (s t : Seats.SeatValue S J I) where
+  abbrev Same : Type 0
+  Same = Seats.IsSeatOf f t × (Seats.number_of t ≡ Seats.number_of s)
+
+  abbrev Shape : Type 0
+  Shape = Seats.SeatValue S J I
+
+  same_after : (w : Shape) → t ≡ w → w.0 ≡ s.0 → w.1.setup ≡ s.1.setup → w.1.number ≡ s.1.number → Seats.IsSeatOf f s → Same
+  same_after w is id setup number own = ((ap (λ (z : Shape). z.0) is ∙ id ∙ own.0, ap (λ (z : Shape). z.1.setup) is ∙ setup ∙ own.1), ap (λ (z : Shape). z.1.number) is ∙ number)
+
+  -- a call leaves a seat with its floor and its number
+  pub same_after_serve : (r : Result (Served I) ServeFault) → IfOk r (λ d. Seats.Serves k d.number d.sends s t) → IfErr r (λ e. Seats.ServeRefused f k s t e) → Seats.IsSeatOf f s → Same
+  same_after_serve (Ok d) done refused own = same_after (Seats.serving s k done.posted d.number d.sends) done.now refl refl refl own
+  same_after_serve (Err (Busy by)) done refused own = same_after (Seats.looking s (Held k by)) refused.now refl refl refl own
+  same_after_serve (Err (Idle p n)) done refused own = same_after (Seats.looking s (Counts k p n)) refused.1.now refl refl refl own
+  same_after_serve (Err Memory) done refused own = same_after (Seats.looking s (Counts k refused.0 refused.1)) refused.3.now refl refl refl own
+
+  pub same_after_held : (by : ℕ) → Seats.SeesHeld f k by s t → Seats.IsSeatOf f s → Same
+  same_after_held by held own = same_after (Seats.looking s (Held k by)) held.now refl refl refl own

@@ -1,4 +1,4 @@
--- What a closed floor's cells have to do with what its seats did.
+-- What the cells of a closed floor have to do with what its seats did.
 use Rattle.std.specs.Prelude.{◌≡◌, ℕ, ◌<◌, List, [], ◌∷◌, ◌++◌, length, Some, slice_get}
 use Rattle.bs_floor.specs.declared.station.Bound.{Bound}
 use Rattle.bs_floor.specs.declared.cell.Cell.{Cell}
@@ -8,17 +8,7 @@ use Rattle.bs_floor.specs.declared.station.Station as Station
 use Rattle.bs_floor.specs.Counting.{below, count, Each}
 use Rattle.bs_floor.specs.History.{IsCellOf, IsServeOf, IsHistory, AreSends}
 
--- the stations that a floor was made from, and its cells at the end
-abbrev pub ClosedValue : Type 0 → Type 0 → Type 0 → Type 0
-ClosedValue S J I = List S × List (Cell S J I)
-
-module _ {S J I : Type 0} where
-  abbrev pub opening_of : ClosedValue S J I → List S
-  opening_of c = c.0
-
-  abbrev pub cells_of : ClosedValue S J I → List (Cell S J I)
-  cells_of c = c.1
-
+-- all elements of these lists, in order
 abbrev pub joined_lists : {X : Type 0} → List (List X) → List X
 joined_lists [] = []
 joined_lists (l ∷ ls) = l ++ joined_lists ls

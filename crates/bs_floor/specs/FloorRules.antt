@@ -1,6 +1,6 @@
 -- The rule of a floor, which holds between any two steps: what ties the words, the cells at home and the views of all seats.
 -- With P stations, word k is the turn of the station k: 0, or the number of a seat plus 1. Word P + k counts the items posted there, and word P + P + k those that are served.
-use Rattle.std.specs.Prelude.{◌≡◌, ℕ, suc, ◌+◌, ◌<◌, ◌≤◌, List, length, Option, Some, None, slice_get, slice_index}
+use Rattle.std.specs.Prelude.{◌≡◌, ℕ, suc, ◌+◌, ◌<◌, ◌≤◌, List, length, Some, None, slice_get, slice_index}
 use mathlib.Core.Option.{some}
 use lib.ListN.{get_elem?}
 use Rattle.atomic_table.specs.Table.{State}

@@ -1,10 +1,9 @@
 -- What each kind of step tells the seat that makes it.
-use Rattle.std.specs.Prelude.{◌≡◌, ℕ, suc, ◌+◌, ◌<◌, List, [], ◌∷◌, ◌++◌, length, Some, None, slice_get}
+use Rattle.std.specs.Prelude.{◌≡◌, ℕ, suc, ◌<◌, List, [], ◌∷◌, ◌++◌, length, Some, None, slice_get}
 use Rattle.atomic_table.specs.Table.{Me, Step, rest}
 use Rattle.bs_floor.specs.declared.cell.Cell.{Cell}
 use Rattle.bs_floor.specs.declared.view.SeatView.{SeatView}
 use Rattle.bs_floor.specs.declared.view.Setup.{Setup}
-use Rattle.bs_floor.specs.declared.view.Look.{Look}
 use Rattle.bs_floor.specs.declared.view.Look.TheVariants.{Held, Counts}
 use Rattle.bs_floor.specs.declared.view.Turn.{Turn}
 use Rattle.bs_floor.specs.declared.station.Station as Station

@@ -1,5 +1,5 @@
 -- A floor and its seats as callers see them. A floor is which table it is and what it was made from. A seat is which table it is of and its view, of which callers see the number and three lists.
-use Rattle.std.specs.Prelude.{◌≡◌, ◌≢◌, ℕ, ◌<◌, ◌≤◌, List, [], ◌∷◌, ◌++◌, All, Any, length, map, Some, None}
+use Rattle.std.specs.Prelude.{◌≡◌, ◌≢◌, ℕ, ◌<◌, ◌≤◌, List, [], ◌∷◌, ◌++◌, All, Any, length, Some, None}
 use Rattle.atomic_table.specs.Seated.{TableId}
 use Rattle.bs_floor.specs.declared.station.Bound.{Bound}
 use Rattle.bs_floor.specs.declared.answers.Position.{Position}

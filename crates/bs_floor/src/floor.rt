@@ -5,7 +5,7 @@ ghost use Rattle.bs_floor.specs.History.{FormFloor};
 ghost use Rattle.bs_floor.specs.SeatViews.{seat_view};
 ghost use Rattle.bs_floor.specs.Stations.{AllFit};
 ghost use Rattle.bs_floor.specs.Seats.{FloorValue, SeatValue, job_of, stations_of, station_count, seat_count, number_of, posts_of, serves_of, IsSeatOf, IsNewSeat, Posts, Serves, PostRefused, ServeRefused, AllSeats};
-ghost use Rattle.bs_floor.specs.Closing.{Settled, joined_lists, opening_of, cells_of};
+ghost use Rattle.bs_floor.specs.Closing.{Settled, joined_lists};
 
 use crate::answers::{PostFault, ServeFault, Served};
 use crate::cell::Cell;
@@ -33,7 +33,7 @@ impl<S: Station> Model for Floor<S> {
 
     ghost view = { λ f. (f.inner.table.shared.table_id, f.inner.table.shared.key) };
 
-    ghost invariant = { λ f. (f.inner.table.shared.table_id.words ≡ f.inner.table.shared.table_id.slots + f.inner.table.shared.table_id.slots + f.inner.table.shared.table_id.slots) × (f.inner.table.shared.table_id.slots ≡ length f.inner.table.shared.key.stations.value.items) × (0 < f.inner.table.shared.table_id.slots) × (f.inner.table.shared.table_id.slots ≤ 65536) × (0 < f.inner.table.shared.key.seats) × (f.inner.table.shared.key.seats ≤ 65) × (f.inner.room.items ≡ []) × (f.inner.table.shared.table_id.slots ≤ vec_capacity f.inner.room) × (f.inner.table.shared.key ≡ f.inner.setup) × (S.places (S.job f.inner.table.shared.key.first.value) ≡ f.inner.table.shared.table_id.slots) };
+    ghost invariant = { λ f. (f.inner.table.shared.table_id.words ≡ f.inner.table.shared.table_id.slots + f.inner.table.shared.table_id.slots + f.inner.table.shared.table_id.slots) × (f.inner.table.shared.table_id.slots ≡ length f.inner.table.shared.key.stations.value.items) × (0 < f.inner.table.shared.table_id.slots) × (f.inner.table.shared.table_id.slots ≤ 65536) × (0 < f.inner.table.shared.key.seats) × (f.inner.table.shared.key.seats ≤ 65) × (f.inner.room.items ≡ []) × (f.inner.table.shared.table_id.slots ≤ vec_capacity f.inner.room) × (S.places (S.job f.inner.table.shared.key.first.value) ≡ f.inner.table.shared.table_id.slots) };
 }
 
 impl<S: Station> Floor<S> {
@@ -114,6 +114,7 @@ impl<S: Station> Floor<S> {
         requires fits { S.fits (job_of S.Station self.now) to item }
         ensures ok { IfOk result (λ place. Posts to item place seat.old seat.new) }
         ensures err { IfErr result (λ fault. PostRefused self.now to item seat.old seat.new fault) }
+        ensures same { IsSeatOf self.now seat.new × (number_of seat.new ≡ number_of seat.old) }
     {
         let at = to as usize;
         let inner = &self.inner;
@@ -149,6 +150,7 @@ impl<S: Station> Floor<S> {
         ensures ok { IfOk result (λ s. Serves at s.number s.sends seat.old seat.new) }
         ensures fitting { IfOk result (λ s. AllFit (station_count self.now) (S.fits (job_of S.Station self.now)) s.sends) }
         ensures err { IfErr result (λ fault. ServeRefused self.now at seat.old seat.new fault) }
+        ensures same { IsSeatOf self.now seat.new × (number_of seat.new ≡ number_of seat.old) }
     {
         let place = at as usize;
         let inner = &self.inner;
@@ -173,20 +175,17 @@ impl<S: Station> Floor<S> {
     /// station is what serving its items in order gives, and is sound, and each item fits there.
     pub fn close(self, seats: Vec<FloorSeat<S>>) -> Closed<S>
         requires { AllSeats self seats.items }
-        ensures opening { opening_of result ≡ stations_of self }
-        ensures settled { Settled S.Station (stations_of self) (map posts_of seats.items) (map serves_of seats.items) (cells_of result) }
+        ensures { Settled S.Station (stations_of self) (map posts_of seats.items) (map serves_of seats.items) result }
     {
         let base = self.gathered(seats);
         let Floor { inner } = self;
         let TurnTable {
             table,
-            setup,
             room,
             alloc: _,
         } = inner;
         let closed = table.close_with(base);
         Closed {
-            opening: setup.stations,
             cells: List::from_vec(emptied(closed, room)),
         }
     }

@@ -20,12 +20,16 @@
 mod answers;
 mod cell;
 mod closed;
+#[cfg(test)]
+mod countdown;
 mod floor;
 mod gate;
 mod lists;
 mod rule;
 mod seat;
 mod station;
+#[cfg(test)]
+mod tests;
 mod turn_table;
 mod view;
 

@@ -25,7 +25,6 @@ pub(crate) type CellSeat<S> = Seat<Cell<S>, SeatView<S>>;
 #[derive(Drop)]
 pub(crate) struct TurnTable<S: Station> {
     pub(crate) table: CellTable<S>,
-    pub(crate) setup: Setup<S>,
     pub(crate) room: Vec<Cell<S>>,
     pub(crate) alloc: Global,
 }
@@ -66,7 +65,7 @@ impl<S: Station> TurnTable<S> {
     ) -> Result<(TurnTable<S>, CellSeat<S>), AllocError>
         requires { FormFloor S.Station stations.items × (0 < seats) }
         ensures words { IfOk result (λ r. (r.0.table.shared.table_id.words ≡ length stations.items + length stations.items + length stations.items) × (r.0.table.shared.table_id.slots ≡ length stations.items)) }
-        ensures setup { IfOk result (λ r. (r.0.table.shared.key ≡ r.0.setup) × (r.0.setup.stations.value ≡ stations) × (r.0.setup.seats ≡ seats)) }
+        ensures setup { IfOk result (λ r. (r.0.table.shared.key.stations.value ≡ stations) × (r.0.table.shared.key.seats ≡ seats)) }
         ensures room { IfOk result (λ r. (r.0.room.items ≡ []) × (length stations.items ≤ vec_capacity r.0.room)) }
         ensures places { IfOk result (λ r. S.places (job_of S.Station r.0.table.shared.key) ≡ length stations.items) }
         ensures few { IfOk result (λ r. (0 < length stations.items) × (length stations.items ≤ 65536)) }
@@ -78,15 +77,7 @@ impl<S: Station> TurnTable<S> {
         let words = Vec::from_elem(alloc, 0u64, count + count + count)?;
         let room = Vec::with_capacity(alloc, count)?;
         match Table::new(alloc, words.as_slice(), cells, &setup) {
-            Ok((table, seat)) => Ok((
-                TurnTable {
-                    table,
-                    setup,
-                    room,
-                    alloc,
-                },
-                seat,
-            )),
+            Ok((table, seat)) => Ok((TurnTable { table, room, alloc }, seat)),
             Err(Refused { slots: _ }) => Err(AllocError),
         }
     }

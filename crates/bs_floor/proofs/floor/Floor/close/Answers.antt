@@ -1,5 +1,5 @@
-use Rattle.std.proofs.Common.{◌≡◌, length, map, arith, ap, sym, ◌∙◌, subst}
-use Rattle.std.specs.Slots.{slots_items, slots_counts}
+use Rattle.std.proofs.Common.{length, map, arith, ap, ◌∙◌}
+use Rattle.std.specs.Slots.{slots_counts}
 use Rattle.bs_floor.specs.Seats.{SeatValue}
 use Rattle.bs_floor.specs.Closing.{joined_lists}
 use Rattle.bs_floor.proofs.Gathering.{numbered_somewhere}
@@ -7,8 +7,8 @@ use Rattle.bs_floor.proofs.SeatNumbering.{settles}
 use Rattle.bs_floor.proofs.Settling.{settles_all}
 use Rattle.bs_floor.proofs.floor.Floor.close.Goals as goal
 
-pub returns-clause-settled : goal.returns-clause-settled
-returns-clause-settled g c =
+pub returns : goal.returns
+returns g c =
     let b = c.gathered-base.ensures in
     let v = c.self.invariant in
     let slots = slots_counts c.close_with-closed.result.slots in

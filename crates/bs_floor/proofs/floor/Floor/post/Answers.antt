@@ -1,6 +1,6 @@
-use Rattle.std.proofs.Common.{◌-◌, Some, refl, rules, arith, ap, sym, ◌∙◌}
+use Rattle.std.proofs.Common.{◌-◌, Some, refl, arith, ap, sym, ◌∙◌}
 use Rattle.bs_floor.proofs.AtWords.{had_cell}
-use Rattle.bs_floor.proofs.WholeCalls.{is_free, rests_after_look, held_after_post, held_value, post_value, post_fault, rests_after_post}
+use Rattle.bs_floor.proofs.WholeCalls.{is_free, rests_after_look, held_after_post, held_value, same_after_held}
 use Rattle.bs_floor.proofs.floor.Floor.post.Goals as goal
 
 pub overflow_cast-by : goal.overflow_cast-by
@@ -25,3 +25,6 @@ pub put-requires-clause-held : goal.put-requires-clause-held
 put-requires-clause-held g c =
     let h = had_cell g.S.Station _ _ _ _ _ (is_free g.S.Station _ _ _ c.seat.inside.seat.me (ap (λ s. s.1.setup) c.seat.view_is ∙ c.requires.seat.1 ∙ ap (λ f. Some f.1) (sym c.self.view_is)) c.seat.invariant) (c.take-found.ensures.got c.if-found-ne0.false) in
     held_after_post g.S.Station _ _ c.args.item _ _ _ c.post_held-answer.result c.post_held-answer.ensures.ok c.post_held-answer.ensures.err h.0
+
+pub returns-then-found-ne0-clause-same : goal.returns-then-found-ne0-clause-same
+returns-then-found-ne0-clause-same g c = same_after_held _ _ _ _ _ (returns-then-found-ne0-clause-err g c).1 c.requires.seat

@@ -1,6 +1,6 @@
 use Rattle.std.proofs.Common.{◌-◌, Some, rules, arith, ap, sym, ◌∙◌}
 use Rattle.bs_floor.proofs.AtWords.{had_cell}
-use Rattle.bs_floor.proofs.WholeCalls.{is_free, rests_after_look, held_after_serve, held_value, serve_ok, serve_fits, serve_err, rests_after_serve}
+use Rattle.bs_floor.proofs.WholeCalls.{is_free, rests_after_look, held_after_serve, held_value, same_after_held, serve_ok, serve_fits, serve_err, rests_after_serve, same_after_serve}
 use Rattle.bs_floor.proofs.floor.Floor.serve.Goals as goal
 
 pub overflow_cast-by : goal.overflow_cast-by
@@ -35,7 +35,13 @@ returns-clause-ok g c = serve_ok g.S.Station _ c.args.self.now (ap (λ f. f.1) c
 pub returns-clause-fitting : goal.returns-clause-fitting
 returns-clause-fitting g c =
     let v = c.self.invariant in
-    serve_fits g.S.Station _ c.args.self.now (ap (λ f. f.1) c.self.view_is) _ _ _ _ _ _ _ _ _ _ c.seat.view_is (c.put.ensures.own.0 ∙ c.serve_held-answer.ensures.own.0 ∙ c.take-found.ensures.own.0) (ap (λ s. s.1.setup) c.seat.view_is ∙ c.requires.seat.1 ∙ ap (λ f. Some f.1) (sym c.self.view_is)) c.seat.invariant (c.take-found.ensures.got c.if-found-ne0.false) c.put.ensures.free g.met.S.Station.sends_fit _ (v.9 ∙ v.1 ∙ ap (λ f. Rattle.std.proofs.Common.length f.1.stations.value.items) c.self.view_is) c.serve_held-answer.result c.serve_held-answer.ensures.ok
+    serve_fits g.S.Station _ c.args.self.now (ap (λ f. f.1) c.self.view_is) _ _ _ _ _ _ _ _ _ _ c.seat.view_is (c.put.ensures.own.0 ∙ c.serve_held-answer.ensures.own.0 ∙ c.take-found.ensures.own.0) (ap (λ s. s.1.setup) c.seat.view_is ∙ c.requires.seat.1 ∙ ap (λ f. Some f.1) (sym c.self.view_is)) c.seat.invariant (c.take-found.ensures.got c.if-found-ne0.false) c.put.ensures.free g.met.S.Station.sends_fit _ (v.8 ∙ v.1 ∙ ap (λ f. Rattle.std.proofs.Common.length f.1.stations.value.items) c.self.view_is) c.serve_held-answer.result c.serve_held-answer.ensures.ok
 
 pub returns-clause-err : goal.returns-clause-err
 returns-clause-err g c = serve_err g.S.Station _ c.args.self.now (ap (λ f. f.1) c.self.view_is) _ _ _ _ _ _ _ _ _ _ c.seat.view_is (c.put.ensures.own.0 ∙ c.serve_held-answer.ensures.own.0 ∙ c.take-found.ensures.own.0) (ap (λ s. s.1.setup) c.seat.view_is ∙ c.requires.seat.1 ∙ ap (λ f. Some f.1) (sym c.self.view_is)) c.seat.invariant (c.take-found.ensures.got c.if-found-ne0.false) c.put.ensures.free c.serve_held-answer.result c.serve_held-answer.ensures.err
+
+pub returns-clause-same : goal.returns-clause-same
+returns-clause-same g c = same_after_serve _ _ _ _ c.serve_held-answer.result (returns-clause-ok g c) (returns-clause-err g c) c.requires.seat
+
+pub returns-then-found-ne0-clause-same : goal.returns-then-found-ne0-clause-same
+returns-then-found-ne0-clause-same g c = same_after_held _ _ _ _ _ (returns-then-found-ne0-clause-err g c) c.requires.seat

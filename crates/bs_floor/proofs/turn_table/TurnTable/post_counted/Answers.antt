@@ -1,4 +1,4 @@
-use Rattle.std.proofs.Common.{◌+◌, ◌<◌, ◌∷◌, [], ℕ, rules, arith, ap, ◌∙◌, subst}
+use Rattle.std.proofs.Common.{◌+◌, ◌<◌, ℕ, rules, arith, ap, ◌∙◌, subst}
 use Rattle.bs_floor.specs.SeatSteps.{posted_in_hand, with_post}
 use Rattle.bs_floor.specs.SeatViews.{turn_at}
 use Rattle.bs_floor.proofs.AtWords.{at_count_post}
