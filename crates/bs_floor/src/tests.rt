@@ -2,12 +2,13 @@ ghost use Rattle.std.specs.Prelude.{◌≡◌, ◌<◌, IfOk, vec_len};
 ghost use Rattle.bs_floor.specs.History.{FormFloor};
 ghost use Rattle.bs_floor.specs.Seats.{IsSeatOf, station_count, seat_count, number_of};
 
-use crate::countdown::Countdown;
+use crate::countdown::{Countdown, Counted};
 use crate::{Closed, Floor, FloorSeat, Gate, OpenGate, PostFault, ServeFault, Served, Station};
 use std::alloc::{AllocError, Global};
 use std::sync::atomic::{AtomicU64, Ordering};
 use std::test::*;
 use std::thread;
+use std::thread::Threads;
 
 // How often a thread looks at a flag before it goes on.
 const LOOKS: u64 = 100_000_000;
@@ -22,15 +23,17 @@ fn three(alloc: Global) -> Result<Vec<Countdown>, AllocError>
     Ok(stations)
 }
 
-// A floor of three stations, and its two seats.
-fn two_seats(
+// A floor of these stations, and its two seats.
+fn two_seats<S: Station>(
     alloc: Global,
-) -> Result<(Floor<Countdown>, FloorSeat<Countdown>, FloorSeat<Countdown>), AllocError>
-    ensures counts { IfOk result (λ r. (station_count r.0 ≡ 3) × (seat_count r.0 ≡ 2)) }
+    stations: Vec<S>,
+) -> Result<(Floor<S>, FloorSeat<S>, FloorSeat<S>), AllocError>
+    requires { FormFloor S.Station stations.items }
+    ensures counts { IfOk result (λ r. (station_count r.0 ≡ vec_len stations) × (seat_count r.0 ≡ 2)) }
     ensures nought { IfOk result (λ r. IsSeatOf r.0 r.1 × (number_of r.1 ≡ 0)) }
     ensures one { IfOk result (λ r. IsSeatOf r.0 r.2 × (number_of r.2 ≡ 1)) }
 {
-    let (floor, mut seats) = Floor::new(alloc, three(alloc)?, 2)?;
+    let (floor, mut seats) = Floor::new(alloc, stations, 2)?;
     let one = seats.remove(1);
     let nought = seats.remove(0);
     Ok((floor, nought, one))
@@ -74,7 +77,7 @@ fn closed(
 #[test]
 fn counts_down_by_two_seats(rt: HostRuntime) -> Result<(), Fail> {
     let alloc = rt.alloc();
-    let (floor, mut nought, mut one) = two_seats(alloc)?;
+    let (floor, mut nought, mut one) = two_seats(alloc, three(alloc)?)?;
     assert!(rt; nought.number() == 0 && one.number() == 1);
     assert!(rt; floor.post(&mut nought, 0, 2).is_ok_and(|n| n == 0));
     assert!(rt; is_served(floor.serve(&mut one, 0, &OpenGate), 0, Some((1, 1))));
@@ -168,7 +171,7 @@ fn post_there(
 #[test]
 fn a_held_station_is_busy(rt: HostRuntime) -> Result<(), Fail> {
     let alloc = rt.alloc();
-    let (floor, mut nought, one) = two_seats(alloc)?;
+    let (floor, mut nought, one) = two_seats(alloc, three(alloc)?)?;
     assert!(rt; floor.post(&mut nought, 0, 4).is_ok());
     let gate = Flags {
         raised: AtomicU64::new(0),
@@ -182,5 +185,54 @@ fn a_held_station_is_busy(rt: HostRuntime) -> Result<(), Fail> {
     );
     assert!(rt; served && busy);
     assert!(rt; floor.post(&mut one, 0, 5).is_ok_and(|n| n == 1));
+    Ok(())
+}
+
+// Stations whose type refers to a word that all of them share.
+fn two_counted<'c>(alloc: Global, served: &'c AtomicU64) -> Result<Vec<Counted<'c>>, AllocError>
+    ensures { IfOk result (λ v. FormFloor ⟦<Counted<'c> as Station>⟧ v.items × (vec_len v ≡ 2)) }
+{
+    let mut stations = Vec::new(alloc);
+    stations.push(Counted::new(Countdown::new(alloc, 0, 2), served))?;
+    stations.push(Counted::new(Countdown::new(alloc, 1, 2), served))?;
+    Ok(stations)
+}
+
+fn serve_one<S: Station>(floor: &Floor<S>, mut seat: FloorSeat<S>, at: u32) -> bool
+    requires { IsSeatOf floor.now seat × (at < station_count floor.now) }
+{
+    floor.serve(&mut seat, at, &OpenGate).is_ok()
+}
+
+// Two threads, each at a station of its own.
+fn both_serve<S: Station + Send + Sync, R: Threads>(
+    rt: &R,
+    floor: &Floor<S>,
+    nought: FloorSeat<S>,
+    one: FloorSeat<S>,
+) -> (bool, bool)
+where
+    S::Item: Send + Sync,
+    requires first { IsSeatOf floor.now nought }
+    requires second { IsSeatOf floor.now one }
+    requires stations { 1 < station_count floor.now }
+{
+    thread::join(
+        rt,
+        move || serve_one(floor, nought, 0),
+        move || serve_one(floor, one, 1),
+    )
+}
+
+#[test]
+fn a_station_may_hold_references(rt: HostRuntime) -> Result<(), Fail> {
+    let alloc = rt.alloc();
+    let served = AtomicU64::new(0);
+    let (floor, mut nought, mut one) = two_seats(alloc, two_counted(alloc, &served)?)?;
+    assert!(rt; floor.post(&mut nought, 0, 3).is_ok());
+    assert!(rt; floor.post(&mut one, 1, 4).is_ok());
+    let answers = both_serve(&rt, &floor, nought, one);
+    assert!(rt; answers.0 && answers.1);
+    assert!(rt; served.load(Ordering::SeqCst) == 2);
     Ok(())
 }
