@@ -1,0 +1,12 @@
+pub mod Lookups
+pub mod Sums
+pub mod Kept
+pub mod TurnSteps
+pub mod CountSteps
+pub mod SeatNumbering
+pub mod Openings
+pub mod AtWords
+pub mod WholeCalls
+pub mod Gathering
+pub mod Settling
+pub mod SeatLists

@@ -1,0 +1,12 @@
+pub mod Stations
+pub mod Counting
+pub mod SeatViews
+pub mod History
+pub mod FloorRules
+pub mod SeatSteps
+pub mod Hands
+pub mod Serving
+pub mod Seats
+pub mod Closing
+pub mod Countdown
+pub mod CountdownLaws
