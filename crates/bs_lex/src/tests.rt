@@ -82,7 +82,7 @@ fn the_longest_mark_is_taken(rt: HostRuntime) {
 
 #[test]
 fn the_first_fault_is_told_with_its_place(rt: HostRuntime) {
-    let texts: [(&[u8], LexFault); 16] = [
+    let texts: [(&[u8], LexFault); 17] = [
         (b"08", LexFault::BadNumber(0)),
         (
             b"chares 1; body { serial { x = 08; } }",
