@@ -1,0 +1,5 @@
+pub mod Ring
+pub mod Range
+pub mod Torus
+pub mod Home
+pub mod Latency

@@ -1,0 +1,9 @@
+pub mod Uses
+pub mod Walks
+pub mod Turns
+pub mod Taken
+pub mod Tested
+pub mod Texts
+pub mod ByParts
+pub mod OneByOne
+pub mod Shown

@@ -1,0 +1,13 @@
+use Rattle.std.proofs.Common.{ap₂, ◌∙◌}
+use Rattle.std.proofs.lemmas.Result.{IfOk-weaker}
+use Rattle.clap.specs.Words.{with_rule}
+use Rattle.bs_words.proofs.app.words_parser.Goals as goal
+
+pub returns : goal.returns
+returns c =
+    let one = c.in_ok-arg.ensures.shape c.option_arg.ensures.local ∙ ap₂ with_rule c.bare_parser.ensures c.option_arg.ensures.rule in
+    let two = c.in_ok-arg-2.ensures.shape c.option_arg-2.ensures.local ∙ ap₂ with_rule one c.option_arg-2.ensures.rule in
+    let three = c.in_ok-arg-3.ensures.shape c.option_arg-3.ensures.local ∙ ap₂ with_rule two c.option_arg-3.ensures.rule in
+    let four = c.in_ok-arg-4.ensures.shape c.option_arg-4.ensures.local ∙ ap₂ with_rule three c.option_arg-4.ensures.rule in
+    let five = c.in_ok-arg-5.ensures.shape c.command_arg.ensures.local ∙ ap₂ with_rule four c.command_arg.ensures.rule in
+    IfOk-weaker c.arg-6.result _ _ (λ r h. h.shape c.names_arg.ensures.local ∙ ap₂ with_rule five c.names_arg.ensures.rule) c.arg-6.ensures

@@ -1,0 +1,64 @@
+// The commands, with the names and the options of each.
+ghost use Rattle.std.specs.Prelude.{◌≡◌};
+ghost use Rattle.bs_words.specs.Verbs.{verb_of, roles_of, has};
+
+use crate::roles::Role;
+use crate::setting::Setting;
+
+/// A command.
+#[derive(Clone, Copy, Debug, PartialEq, Eq, Drop)]
+pub enum Verb {
+    Check,
+    Model,
+    Emulate,
+    Predict,
+    Run,
+    Trace,
+    Gen,
+    Trial,
+}
+
+pub(crate) fn verb_named(word: &str) -> Option<Verb>
+    ensures { result ≡ verb_of word.now }
+{
+    match word {
+        "check" => Some(Verb::Check),
+        "model" => Some(Verb::Model),
+        "emulate" => Some(Verb::Emulate),
+        "predict" => Some(Verb::Predict),
+        "run" => Some(Verb::Run),
+        "trace" => Some(Verb::Trace),
+        "gen" => Some(Verb::Gen),
+        "trial" => Some(Verb::Trial),
+        _ => None,
+    }
+}
+
+impl Verb {
+    // What each name of the command stands for.
+    pub(crate) fn roles(self) -> &'static [Role]
+        ensures { result.now ≡ roles_of self }
+    {
+        match self {
+            Verb::Check => &[Role::File],
+            Verb::Emulate => &[Role::File, Role::File],
+            Verb::Model | Verb::Predict | Verb::Run | Verb::Trace => &[Role::File, Role::Machine],
+            Verb::Gen | Verb::Trial => &[Role::Workload, Role::Size, Role::Seed],
+        }
+    }
+
+    // Whether the command has the option.
+    pub(crate) fn has(self, setting: Setting) -> bool
+        ensures { result ≡ has self setting }
+    {
+        match setting {
+            Setting::Limit => matches!(self, Verb::Model | Verb::Emulate | Verb::Run),
+            Setting::Workers => matches!(
+                self,
+                Verb::Emulate | Verb::Predict | Verb::Run | Verb::Trial
+            ),
+            Setting::Waves => matches!(self, Verb::Predict | Verb::Run),
+            Setting::Journal => matches!(self, Verb::Predict),
+        }
+    }
+}
