@@ -143,11 +143,11 @@ complete_within {B = B} most (suc e) role left right f inside R ok level below i
     let mid = after_all first inner in
     let up : first.brackets ≡ suc counts.brackets = bracket_after counts role left o in
     let one : read_one {A = Unit {0}} most role (the_mark left tt) counts (g.mark left ∷ (terminals (inner ++ last) ++ rest)) ≡ got tt first (terminals (inner ++ last) ++ rest) =
-        one_takes most role (the_mark left tt) counts (g.mark left) _ tt (accepted_itself left) w'.0 in
+    one_takes most role (the_mark left tt) counts (g.mark left) _ tt (accepted_itself left) w'.0 in
     let two : read most (reading most e) (content inside) first (terminals inner ++ (terminals last ++ rest)) ≡ got s.1 mid (terminals last ++ rest) =
-        below e refl inner s.1 first (terminals last ++ rest) s.3 (within_left most first inner last w'.1) (omega (arith, up, enough)) (starts_mark (goes_on (content inside)) right rest ends) in
+    below e refl inner s.1 first (terminals last ++ rest) s.3 (within_left most first inner last w'.1) (omega (arith, up, enough)) (starts_mark (goes_on (content inside)) right rest ends) in
     let three : read_one {A = Unit {0}} most (closing role) (the_mark right tt) mid (g.mark right ∷ rest) ≡ got tt (after mid (closing role, g.mark right)) rest =
-        one_takes most (closing role) (the_mark right tt) mid (g.mark right) rest tt (accepted_itself right) (within_right most first inner last w'.1).0 in
+    one_takes most (closing role) (the_mark right tt) mid (g.mark right) rest tt (accepted_itself right) (within_right most first inner last w'.1).0 in
     rw (s.2, one, terminals_then inner last rest, two, three, s.4, after_append first inner last) refl
 
 complete_maybe : {A B : Type 0} (most : Counts) (depth : ℕ) (f : Option B → A) (P : Parser B) (R : List Item → B → Type 0) (begin goes : Kind → Bool) → ((items : List Item) (b : B) → R items b → Heads false begin items) → Complete most depth P R goes
@@ -184,8 +184,8 @@ module _ (most : Counts) (all_fine : AllFine) where
         let ok_r = both_left (fine r) _ ok in
         let more = both_right (fine r) _ ok in
         let all : turns (read most (reading most depth) r) (begins r) (length (terminals items ++ rest)) counts (terminals items ++ rest) ≡ got s.0 (after_all counts items) rest =
-            complete_turns most depth (read most (reading most depth) r) (Spells (Inner d) r) (begins r) (goes_on r) (leveled r ok_r) (headed_always r (both_left (not (empty r)) _ more)) (both_right (not (empty r)) _ more)
-            (complete_rule r ok_r) s.0 items (length (terminals items ++ rest)) counts rest s.1 (omega arith) w enough (starts_left (begins r) (goes_on r) rest clear) (starts_right (begins r) (goes_on r) rest clear) in
+        complete_turns most depth (read most (reading most depth) r) (Spells (Inner d) r) (begins r) (goes_on r) (leveled r ok_r) (headed_always r (both_left (not (empty r)) _ more)) (both_right (not (empty r)) _ more)
+        (complete_rule r ok_r) s.0 items (length (terminals items ++ rest)) counts rest s.1 (omega arith) w enough (starts_left (begins r) (goes_on r) rest clear) (starts_right (begins r) (goes_on r) rest clear) in
         rw (all, s.2) refl
     complete_rule (maybe f r) ok items a counts rest s w enough clear =
         let ok_r = both_left (fine r) _ ok in
@@ -200,7 +200,7 @@ module _ (most : Counts) (all_fine : AllFine) where
         let ok_q = both_left (fine q) _ (both_right (fine r) _ ok) in
         let more = both_right (not (empty r)) _ (both_right (fine q) _ (both_right (fine r) _ ok)) in
         let not_begun : starts (begins r) (terminals items ++ rest) ≡ false =
-            clear_heads (begins r) items rest (both_right (not (empty q)) _ more) (λ e. cc) (headed_always q (both_left (not (empty q)) _ more) items a s) in
+        clear_heads (begins r) items rest (both_right (not (empty q)) _ more) (λ e. cc) (headed_always q (both_left (not (empty q)) _ more) items a s) in
         rw not_begun (complete_rule q ok_q items a counts rest s w enough (starts_right (goes_on r) (goes_on q) rest clear))
     complete_rule (within {B = B} role left right f inside) ok items a counts rest s w enough clear =
         complete_within most depth role left right f inside (Inner d B inside) ok (levels all_fine d B inside) (λ e is. below e is B inside) items a counts rest s w enough clear

@@ -80,7 +80,7 @@ module _ (D : (B : Type 0) → Inside B → List Item → B → Type 0) where
 not_some : {A : Type 0} (f : Mark → Option A) (n : Mark) (a : A) → not (is_some (f n)) || no_bracket n ≡ true → f n ≡ Some a → no_bracket n ≡ true
 not_some f n a h e = rw e at h
 
-plain_tells : {A : Type 0} (choice : Choice A) (t : Terminal) (a : A) → plain choice ≡ true → accepted choice t ≡ Some a → (opens t ≡ false) × (closes t ≡ false)
+pub plain_tells : {A : Type 0} (choice : Choice A) (t : Terminal) (a : A) → plain choice ≡ true → accepted choice t ≡ Some a → (opens t ≡ false) × (closes t ≡ false)
 plain_tells (a_name f) (g.name n) a p e = (refl, refl)
 plain_tells (a_number f) (g.number z) a p e = (refl, refl)
 plain_tells (the_word w b) (g.word v) a p e = (refl, refl)

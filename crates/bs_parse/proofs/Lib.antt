@@ -1,7 +1,10 @@
 pub mod Basics
 pub mod Fine
 pub mod Complete
-pub mod Program
+pub mod Foresight
 pub mod Sound
 pub mod Viable
 pub mod Local
+pub mod Enter
+pub mod Onward
+pub mod Exact

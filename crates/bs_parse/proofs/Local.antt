@@ -109,9 +109,11 @@ one_fails {A = A} small big role choice counts (t ∷ ts) rest h = by (accepted 
     limit : (a : A) (o : Option Reason) → refused small counts (role, t) ≡ o → allowed a (after counts (role, t)) t ts o ≡ bad unexpected rest → Failed (read_one big role choice) counts (t ∷ ts) rest
     limit a None r h = absurd (got_bad h)
     limit a (Some why) r h = absurd (refused_expected small counts (role, t) (r ∙ ap Some (bad_reason h)))
+
     by : (o : Option A) → accepted choice t ≡ o → taken small role counts t ts o ≡ bad unexpected rest → Failed (read_one big role choice) counts (t ∷ ts) rest
     by None e h = record {
-      used = []; is = bad_rest h;
+      used = [];
+      is = bad_rest h;
       again = λ next same. let first : Same (t ∷ ts) next = subst (λ us. Same us next) (sym (bad_rest h)) same in rw (first.1, e) refl;
     }
     by (Some a) e h = limit a (refused small counts (role, t)) refl h
@@ -140,6 +142,7 @@ module _ {A B C : Type 0} (big : Counts) (depth : ℕ) (f : B → C → A) (P P'
                     let two : Q' mid (y.used ++ next) ≡ got z.value end next = y.again next same in
                     rw (append_assoc x.used y.used next, one, two, z.shape) refl;
               }
+
       fails : (counts : Counts) (ts rest : List Terminal) → and_then (P counts ts) (λ b counts ts. and_then (Q counts ts) (λ c counts ts. got (f b c) counts ts)) ≡ bad unexpected rest → big.brackets ≤ depth + counts.brackets
           → Failed (λ counts ts. and_then (P' counts ts) (λ b counts ts. and_then (Q' counts ts) (λ c counts ts. got (f b c) counts ts))) counts ts rest
       fails counts ts rest h enough = by (one_stood (P counts ts) _ unexpected rest h)
@@ -183,7 +186,8 @@ record FailedTurns {B : Type 0} (Q : Parser B) (begin : Kind → Bool) (counts :
 
 kept_none : {B : Type 0} (Q : Parser B) (begin : Kind → Bool) (counts : Counts) (ts : List Terminal) (bs : List B) (end : Counts) (rest : List Terminal) → starts begin ts ≡ false → got [] counts ts ≡ got bs end rest → KeptTurns Q begin counts ts bs end rest
 kept_none Q begin counts ts bs end rest none h = record {
-  used = []; is = got_rest h;
+  used = [];
+  is = got_rest h;
   again = λ next n same le.
       let none' : starts begin next ≡ false = same_starts begin rest next same ∙ ap (starts begin) (sym (got_rest h)) ∙ none in
       turns_none Q begin n counts next none' ∙ ap (λ bs. got bs counts next) (got_value h) ∙ ap (λ c. got bs c next) (got_counts h);
@@ -227,6 +231,7 @@ module _ {B : Type 0} (big : Counts) (depth : ℕ) (P Q : Parser B) (begin : Kin
                 turn_again counts mid ts us x.used y.used b (got z.value end next) next k x.is less begun (same_on x.used ts us (y.used ++ next) x.is same_us) (subst (λ vs. length vs ≤ k) (append_assoc x.used y.used next) le)
                 (x.again (y.used ++ next) same_us) (λ k le. y.again next k same le) ∙ ap (λ bs. got bs end next) z.shape;
           }
+
       by : Test (starts begin ts) → ((counts : Counts) (ts : List Terminal) (bs : List B) (end : Counts) (rest : List Terminal) → turns P begin m counts ts ≡ got bs end rest → length ts ≤ m → big.brackets ≤ depth + counts.brackets → KeptTurns Q begin counts ts bs end rest) → KeptTurns Q begin counts ts bs end rest
       by (fails none) more = kept_none Q begin counts ts bs end rest none (rw none at h)
       by (holds begun) more = go_on more begun (both_went (P counts ts) _ bs end rest (rw begun at h))
@@ -257,6 +262,7 @@ module _ {B : Type 0} (big : Counts) (depth : ℕ) (P Q : Parser B) (begin : Kin
                 turn_again counts mid ts us x.used y.used b (bad unexpected next) next k x.is less begun (same_on x.used ts us (y.used ++ next) x.is same_us) (subst (λ vs. length vs ≤ k) (append_assoc x.used y.used next) le)
                 (x.again (y.used ++ next) same_us) (λ k le. y.again next k same le);
           }
+
       by : Test (starts begin ts) → ((counts : Counts) (ts rest : List Terminal) → turns P begin m counts ts ≡ bad unexpected rest → length ts ≤ m → big.brackets ≤ depth + counts.brackets → FailedTurns Q begin counts ts rest) → FailedTurns Q begin counts ts rest
       by (fails none) more = absurd (let h' = rw none at h in cc)
       by (holds begun) more = go_on more begun (one_stood (P counts ts) _ unexpected rest (rw begun at h))
@@ -293,6 +299,7 @@ module _ {A B : Type 0} (small big : Counts) (role : Role) (left right : Mark) (
                     let is_one : P' first (x.used ++ (y.used ++ next)) ≡ got b mid (y.used ++ next) = x.again (y.used ++ next) (same_on y.used vs rest next y.is same) in
                     rw (append_assoc x.used y.used next, is_one) (y.again next same);
               }
+
           by : Went (read_one {A = Unit {0}} small role (the_mark left tt) counts ts) (λ _ counts us. and_then (P counts us) (shut small role right f)) a end rest → Kept (read_within big role left right f (Some P')) counts ts a end rest
           by (went u first us p n) =
               let one = one_got {A = Unit {0}} small role (the_mark left tt) counts ts u first us p in
@@ -307,6 +314,7 @@ module _ {A B : Type 0} (small big : Counts) (role : Role) (left right : Mark) (
                     let is_one : read_one {A = Unit {0}} big role (the_mark left tt) counts (x.used ++ (y.used ++ next)) ≡ got u first (y.used ++ next) = x.again (y.used ++ next) (same_on y.used us rest next y.is same) in
                     rw (append_assoc x.used y.used next, is_one) (y.again next same);
               }
+
       fails : (counts : Counts) (ts rest : List Terminal) → read_within small role left right f (Some P) counts ts ≡ bad unexpected rest → big.brackets ≤ suc depth' + counts.brackets → Failed (read_within big role left right f (Some P')) counts ts rest
       fails counts ts rest h enough = by (one_stood (read_one {A = Unit {0}} small role (the_mark left tt) counts ts) _ unexpected rest h)
         where
@@ -324,6 +332,7 @@ module _ {A B : Type 0} (small big : Counts) (role : Role) (left right : Mark) (
                     let is_one : P' first (x.used ++ (y.used ++ next)) ≡ got b mid (y.used ++ next) = x.again (y.used ++ next) (same_on y.used vs rest next y.is same) in
                     rw (append_assoc x.used y.used next, is_one) (y.again next same);
               }
+
           by : Stood (read_one {A = Unit {0}} small role (the_mark left tt) counts ts) (λ _ counts us. and_then (P counts us) (shut small role right f)) unexpected rest → Failed (read_within big role left right f (Some P')) counts ts rest
           by (at_first p) =
               let x = one_fails {A = Unit {0}} small big role (the_mark left tt) counts ts rest p in
@@ -397,9 +406,11 @@ module _ {A B : Type 0} (big : Counts) (depth : ℕ) (f : Option B → A) (begin
       keeps counts ts a end rest h enough (fails e) =
           let h' = rw e at h in
           record {
-            used = []; is = got_rest h';
+            used = [];
+            is = got_rest h';
             again = λ next same. rw (start_again begin ts [] rest next false (got_rest h') same e) (ap (λ a. got a counts next) (got_value h') ∙ ap (λ c. got a c next) (got_counts h'));
           }
+
       fails_ : (counts : Counts) (ts rest : List Terminal) → Maybe P counts ts ≡ bad unexpected rest → big.brackets ≤ depth + counts.brackets → Test (starts begin ts) → Failed (Maybe Q) counts ts rest
       fails_ counts ts rest h enough (holds e) =
           failed_as Q (Maybe Q) counts ts rest (λ used next is same again. rw (start_again begin ts used rest next true is same e, again) refl)
@@ -416,6 +427,7 @@ module _ {A : Type 0} (big : Counts) (depth : ℕ) (begin : Kind → Bool) (P P'
       keeps : (counts : Counts) (ts : List Terminal) (a : A) (end : Counts) (rest : List Terminal) → Either P Q counts ts ≡ got a end rest → big.brackets ≤ depth + counts.brackets → Test (starts begin ts) → Kept (Either P' Q') counts ts a end rest
       keeps counts ts a end rest h enough (holds e) = kept_as P' (Either P' Q') counts end ts rest a a (λ used next is same again. rw (start_again begin ts used rest next true is same e) again) (left.keeps counts ts a end rest (rw e at h) enough)
       keeps counts ts a end rest h enough (fails e) = kept_as Q' (Either P' Q') counts end ts rest a a (λ used next is same again. rw (start_again begin ts used rest next false is same e) again) (right.keeps counts ts a end rest (rw e at h) enough)
+
       fails_ : (counts : Counts) (ts rest : List Terminal) → Either P Q counts ts ≡ bad unexpected rest → big.brackets ≤ depth + counts.brackets → Test (starts begin ts) → Failed (Either P' Q') counts ts rest
       fails_ counts ts rest h enough (holds e) = failed_as P' (Either P' Q') counts ts rest (λ used next is same again. rw (start_again begin ts used rest next true is same e) again) (left.fails counts ts rest (rw e at h) enough)
       fails_ counts ts rest h enough (fails e) = failed_as Q' (Either P' Q') counts ts rest (λ used next is same again. rw (start_again begin ts used rest next false is same e) again) (right.fails counts ts rest (rw e at h) enough)
@@ -459,13 +471,15 @@ module _ (small big : Counts) (higher : Higher small big) (all_fine : AllFine) w
               let z = shaped (turns P (begins r) (length ts) counts ts) f a end rest h in
               let x = keeps_turns big depth' P Q (begins r) (flat_read depth r ok_r) eats (local_rule r ok_r) (length ts) counts ts z.value end rest z.is (omega arith) enough in
               record {
-                used = x.used; is = x.is;
+                used = x.used;
+                is = x.is;
                 again = λ next same. let again : turns Q (begins r) (length (x.used ++ next)) counts (x.used ++ next) ≡ got z.value end next = x.again next (length (x.used ++ next)) same (omega arith) in rw (again, z.shape) refl;
               };
           fails = λ counts ts rest h enough.
               let x = fails_turns big depth' P Q (begins r) (flat_read depth r ok_r) eats (local_rule r ok_r) (length ts) counts ts rest (shaped_bad (turns P (begins r) (length ts) counts ts) f unexpected rest h) (omega arith) enough in
               record {
-                used = x.used; is = x.is;
+                used = x.used;
+                is = x.is;
                 again = λ next same. let again : turns Q (begins r) (length (x.used ++ next)) counts (x.used ++ next) ≡ bad unexpected next = x.again next (length (x.used ++ next)) same (omega arith) in rw again refl;
               };
         }

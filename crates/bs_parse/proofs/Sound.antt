@@ -66,6 +66,7 @@ module _ {B : Type 0} (most : Counts) (P : Parser B) (R : List Item → B → Ty
             allows = within_join most counts x.used y.used x.allows (subst (λ c. Within most c y.used) x.counted y.allows);
             counted = y.counted ∙ ap (λ c. after_all c y.used) x.counted ∙ sym (after_append counts x.used y.used);
           }
+
       by : (b : Bool) → Sound most (turns P begin n) (SpellsMany R) → (if b then and_then (P counts ts) (λ b counts ts. and_then (turns P begin n counts ts) (λ bs counts ts. got (b ∷ bs) counts ts)) else got [] counts ts) ≡ got bs end rest → Came most (SpellsMany R) counts ts bs end rest
       by true next h = go_on (both_went (P counts ts) _ bs end rest h) next
       by false next h = record { used = []; is = got_rest h; spells = subst (λ bs. SpellsMany R [] bs) (got_value h) refl; allows = tt; counted = sym (got_counts h) }
@@ -109,12 +110,19 @@ bracketed {A = A} {B = B} most role left right f (Some reader) counts whole a en
         let two = one_got {A = Unit {0}} most (closing role) (the_mark right tt) mid vs z.value end rest z.is in
         let token : two.token ≡ g.mark right = mark_token right two.token two.accepts in
         record {
-          opened = us; is = is; opens_one = opens_one; reader = reader; may = refl; value = b; mid = mid;
+          opened = us;
+          is = is;
+          opens_one = opens_one;
+          reader = reader;
+          may = refl;
+          value = b;
+          mid = mid;
           inner = p ∙ ap (λ us. got b mid us) (two.is ∙ ap (λ t. t ∷ rest) token);
           closes_one = subst (λ t. refused most mid (closing role, t) ≡ None) token two.allows;
           counted = two.counted ∙ ap (λ t. after mid (closing role, t)) token;
           shape = z.shape;
         }
+
     by : Went (read_one {A = Unit {0}} most role (the_mark left tt) counts whole) (λ _ counts ts. and_then (reader counts ts) (shut most role right f)) a end rest → Bracketed most role left right f (Some reader) counts whole a end rest
     by (went u first us p q) =
         let one = one_got {A = Unit {0}} most role (the_mark left tt) counts whole u first us p in

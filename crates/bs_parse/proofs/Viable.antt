@@ -9,7 +9,7 @@ use Rattle.bs_tree.specs.Rule as g
 use Rattle.bs_tree.specs.Rule.{Terminal, Role, outside, operand, Item, terminals, Choice, a_name, a_number, the_word, the_mark, an_operator, accepted, Inside, whole_number, statements, acts, expression, expressions, names, loop_head, Rule, one, both, many, maybe, either, within, closing, Spells, SpellsMany, SpellsMaybe}
 use Rattle.bs_tree.specs.declared.tree.NameId.{NameId}
 use Rattle.bs_tree.specs.declared.tree.Op2.{Op2}
-use Rattle.bs_tree.specs.Grammar.{setting, ended, name, mark as mark', content, Inner, as_name, as_it_is, primary, unary, product, sum, comparison, conjunction, disjunction, chain, multiplies, adds, joins, chooses}
+use Rattle.bs_tree.specs.Grammar.{setting, set_to, ended, name, mark as mark', content, Inner, as_name, as_it_is, primary, unary, product, sum, comparison, conjunction, disjunction, chain, multiplies, adds, joins, chooses}
 use Rattle.bs_tree.specs.Limits.{Counts, after, after_all, opens, closes, refused, refused_role, Within, Reason, unexpected, too_deep, too_many}
 use Rattle.bs_parse.specs.Reading.{Kind, some_name, some_number, word, mark, kind, chosen, starts, empty, begins, goes_on, Outcome, got, bad, Parser, and_then, turns, taken, allowed, read_one, descend, read_within, read, reading}
 use Rattle.bs_parse.proofs.Basics.{both_left, both_right, one_of, same_marks, all_marks, append_none, after_append, terminals_then, within_join, one_got, Went, went, both_went, Stood, at_first, at_next, one_stood, shaped, shaped_bad, some_if, got_value, got_counts, got_rest, got_bad, bad_got, bad_reason, bad_rest, mark_itself, word_itself}
@@ -143,7 +143,7 @@ module _ (D : (B : Type 0) → Inside B → List Item → B → Type 0) where
   sampled_mark m = record { items = (outside, g.mark m) ∷ []; value = tt; spells = (g.mark m, refl, accepted_itself m) }
 
   sampled_setting : Sampled D setting
-  unfolding setting
+  unfolding setting set_to
   sampled_setting = both_sampled sampled_name (both_sampled (sampled_mark m.Assign) sampled_expression)
 
   sampled_ended : Sampled D ended
@@ -216,6 +216,7 @@ one_refused {A = A} most role choice counts (t ∷ ts) reason rest h = by (accep
     limit : (a : A) (o : Option Reason) → accepted choice t ≡ Some a → refused most counts (role, t) ≡ o → allowed a (after counts (role, t)) t ts o ≡ bad reason rest → OneStood most role choice counts (t ∷ ts) reason rest
     limit a None is r h = absurd (got_bad h)
     limit a (Some why) is r h = not_allowed t ts a refl (sym (bad_rest h)) is (r ∙ ap Some (bad_reason h))
+
     by : (o : Option A) → accepted choice t ≡ o → taken most role counts t ts o ≡ bad reason rest → OneStood most role choice counts (t ∷ ts) reason rest
     by None is h = not_this (sym (bad_reason h)) (bad_rest h)
     by (Some a) is h = limit a (refused most counts (role, t)) is refl h
@@ -233,14 +234,18 @@ begins_first : {A B C : Type 0} (f : B → C → A) (r : Rule B) (q : Rule C) �
 begins_first f r q ok items v =
     let y = sample q ok in
     record {
-      depth = suc v.depth; more = v.more ++ y.items; value = f v.value y.value;
+      depth = suc v.depth;
+      more = v.more ++ y.items;
+      value = f v.value y.value;
       spells = (items ++ v.more, y.items, v.value, y.value, sym (append_assoc items v.more y.items), deeper_spells v.depth (suc v.depth) (omega arith) r _ _ v.spells, deeper_spells 1 (suc v.depth) (omega arith) q _ _ y.spells, refl);
     }
 
 begins_second : {A B C : Type 0} (f : B → C → A) (r : Rule B) (q : Rule C) (depth : ℕ) (xs : List Item) (b : B) → Spells (Inner depth) r xs b → (items : List Item) → Begins q items → Begins (both f r q) (xs ++ items)
 begins_second f r q depth xs b s items v =
     record {
-      depth = depth + v.depth; more = v.more; value = f b v.value;
+      depth = depth + v.depth;
+      more = v.more;
+      value = f b v.value;
       spells = (xs, items ++ v.more, b, v.value, append_assoc xs items v.more, deeper_spells depth (depth + v.depth) (omega arith) r _ _ s, deeper_spells v.depth (depth + v.depth) (omega arith) q _ _ v.spells, refl);
     }
 
@@ -256,7 +261,9 @@ many_first r items v = record { depth = v.depth; more = v.more; values = v.value
 
 many_next : {B : Type 0} (r : Rule B) (depth : ℕ) (xs : List Item) (b : B) → Spells (Inner depth) r xs b → (items : List Item) → BeginsMany r items → BeginsMany r (xs ++ items)
 many_next r depth xs b s items v = record {
-  depth = depth + v.depth; more = v.more; values = b ∷ v.values;
+  depth = depth + v.depth;
+  more = v.more;
+  values = b ∷ v.values;
   spells = (xs, items ++ v.more, append_assoc xs items v.more, deeper_spells depth (depth + v.depth) (omega arith) r _ _ s, many_more _ _ (λ ys c p. deeper_spells v.depth (depth + v.depth) (omega arith) r ys c p) _ _ v.spells);
 }
 
@@ -286,6 +293,7 @@ module _ {B : Type 0} (most : Counts) (depth : ℕ) (r : Rule B) (P : Parser B) 
           let same : mid.brackets ≡ counts.brackets = ap (λ c. c.brackets) x.counted ∙ flat x.used b x.spells counts in
           stopped_after most counts mid (BeginsMany r) (BeginsMany r) x.used ts us rest reason x.is x.allows x.counted (many_next r depth x.used b x.spells)
           (next mid us reason rest (shaped_bad (turns P begin n mid us) (λ bs. b ∷ bs) reason rest q) (omega (arith, same, enough)))
+
       by : (b : Bool) → Stops most depth (turns P begin n) (BeginsMany r) → (if b then and_then (P counts ts) (λ b counts ts. and_then (turns P begin n counts ts) (λ bs counts ts. got (b ∷ bs) counts ts)) else got [] counts ts) ≡ bad reason rest → Stopped most (BeginsMany r) counts ts reason rest
       by true next h = go_on next (one_stood (P counts ts) _ reason rest h)
       by false next h = absurd (got_bad h)
@@ -306,19 +314,25 @@ module _ {A B : Type 0} (role : Role) (left right : Mark) (f : B → A) (inside 
 
   bracket_inner : (items : List Item) → Begins (content inside) items → Begins (within role left right f inside) (((role, g.mark left) ∷ []) ++ items)
   bracket_inner items v = record {
-    depth = suc v.depth; more = v.more ++ last; value = f v.value;
+    depth = suc v.depth;
+    more = v.more ++ last;
+    value = f v.value;
     spells = (items ++ v.more, v.value, ap (λ xs. (role, g.mark left) ∷ xs) (sym (append_assoc items v.more last)), v.spells, refl);
   }
 
   bracket_full : (depth : ℕ) (xs : List Item) (b : B) → Inner depth B inside xs b → Begins (within role left right f inside) (((role, g.mark left) ∷ xs) ++ [])
   bracket_full depth xs b s = record {
-    depth = depth; more = last; value = f b;
+    depth = depth;
+    more = last;
+    value = f b;
     spells = (xs, b, ap (λ ys. (role, g.mark left) ∷ (ys ++ last)) (append_none xs), s, refl);
   }
 
   bracket_shut : (depth : ℕ) (xs : List Item) (b : B) → Inner depth B inside xs b → Begins (within role left right f inside) (((role, g.mark left) ∷ xs) ++ last)
   bracket_shut depth xs b s = record {
-    depth = depth; more = []; value = f b;
+    depth = depth;
+    more = [];
+    value = f b;
     spells = (xs, b, append_none ((role, g.mark left) ∷ (xs ++ last)), s, refl);
   }
 
@@ -359,6 +373,7 @@ module _ {A B : Type 0} (most : Counts) (role : Role) (left right : Mark) (f : B
           → and_then (descend ts (reading most d B inside) (after counts (role, g.mark left)) us) (shut most role right f) ≡ bad reason rest → Stopped most Whole counts ts reason rest
       opened zero below enough us is allows h = absurd (omega (arith, not_deep most counts (role, g.mark left) (both_left (opens (g.mark left)) _ ok) allows, enough))
       opened (suc e) below enough us is allows h = stops_opened e (below e refl) (sound_inside most (suc e) B inside _ refl) counts ts us reason rest is allows enough h
+
       by : Stood (read_one {A = Unit {0}} most role (the_mark left tt) counts ts) (λ _ counts us. and_then (descend ts (reading most depth B inside) counts us) (shut most role right f)) reason rest → Stopped most Whole counts ts reason rest
       by (at_first p) =
           one_stops {A = Unit {0}} most Whole role (the_mark left tt) counts ts reason rest (bracket_none role left right f inside ok) (λ t a accepts. subst (λ t. Whole ((role, t) ∷ [])) (sym (mark_token left t accepts)) (bracket_begun role left right f inside ok))

@@ -99,8 +99,8 @@ abbrev pub turns : {B : Type 0} → Parser B → (Kind → Bool) → ℕ → Par
 turns part test zero counts ts = got [] counts ts
 turns part test (suc n) counts ts =
     (if starts test ts
-     then and_then (part counts ts) (λ b counts ts. and_then (turns part test n counts ts) (λ bs counts ts. got (b ∷ bs) counts ts))
-     else got [] counts ts)
+    then and_then (part counts ts) (λ b counts ts. and_then (turns part test n counts ts) (λ bs counts ts. got (b ∷ bs) counts ts))
+    else got [] counts ts)
 
 -- what stands inside a bracket, of which all tokens from the bracket on are `whole`
 abbrev pub descend : {B : Type 0} → List Terminal → Option (Parser B) → Parser B

@@ -54,7 +54,9 @@ pub enum Level {
 }
 
 const MOST_BRACKETS: usize = 64;
+
 const MOST_OPERATORS: usize = 64;
+
 const MOST_STATEMENTS: usize = 10_000;
 
 /// A place among the tokens of a program, with the brackets that are open there, the operators
@@ -75,8 +77,8 @@ impl<'a> Model for Cursor<'a> {
     ghost Value = { Input };
 
     ghost view = { λ c. record {
-        counts = record { brackets = c.brackets; operators = c.operators; statements = c.statements };
-        rest = map terminal (drop c.at c.all.now)
+      counts = record { brackets = c.brackets; operators = c.operators; statements = c.statements };
+      rest = map terminal (drop c.at c.all.now);
     } };
 
     ghost invariant = { λ c. (c.at ≤ length c.all.now) × (c.brackets ≤ c.at) × (c.operators ≤ c.at) × (c.statements ≤ c.at) };

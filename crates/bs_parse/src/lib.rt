@@ -3,5 +3,9 @@
 //! `docs/program-text.md` says how a program is written.
 #![tactic(auto)]
 
+mod acts;
 mod cursor;
+mod expressions;
+mod program;
+mod statements;
 mod tokens;

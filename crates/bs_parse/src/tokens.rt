@@ -4,7 +4,7 @@ ghost use Rattle.bs_tree.specs.Rule.{the_word, the_mark, a_name, a_number, an_op
 ghost use Rattle.bs_tree.specs.Grammar.{as_name, natural as natural_of, literal as literal_of};
 ghost use Rattle.bs_tree.specs.Limits.{most_allowed};
 ghost use Rattle.bs_parse.specs.Reading.{read_one, starts, chosen};
-ghost use Rattle.bs_parse.specs.Seen.{role_of, Reads, operators_of};
+ghost use Rattle.bs_parse.specs.Seen.{role_of, Reads, Shuts, operators_of};
 
 use crate::cursor::{Cursor, Level, Lexeme, Reason, Role, Stop};
 use bs_tree::{Expr, Mark, NameId, Op2, Word};
@@ -50,6 +50,20 @@ impl Cursor<'_> {
         } else {
             Err(UNEXPECTED)
         }
+    }
+
+    /// Takes the closing bracket behind what was read, unless reading stopped there.
+    pub fn close<T: Drop>(
+        &mut self,
+        role: Role,
+        right: Mark,
+        inner: Result<T, Stop>,
+    ) -> Result<T, Stop>
+        ensures { Shuts (role_of role) right inner result self.old self.new }
+    {
+        let inner = inner?;
+        self.mark(role, right)?;
+        Ok(inner)
     }
 
     /// Takes a name.

@@ -63,9 +63,12 @@ none_or (Some items) = items
 abbrev pub ahead : {A : Type 0} → A → List A → List A
 ahead item items = item ∷ items
 
+abbrev pub after_comma : {A : Type 0} → Rule A → Rule A
+after_comma r = mark outside m.Comma ▸ r
+
 -- one or more with commas between them
 abbrev pub with_commas : {A : Type 0} → Rule A → Rule (List A)
-with_commas r = both ahead r (many as_it_is (mark outside m.Comma ▸ r))
+with_commas r = both ahead r (many as_it_is (after_comma r))
 
 -- ---- expressions, from tight to loose
 
@@ -77,10 +80,10 @@ abbrev pub variable : NameId → Option Expr → Expr
 variable x None = e.Var x
 variable x (Some index) = e.At x index
 
-abbrev pub index : Role → Rule Expr
+unfoldable pub index : Role → Rule Expr
 index role = within role m.BracketLeft m.BracketRight as_it_is expression
 
-abbrev pub group : Role → Rule Expr
+unfoldable pub group : Role → Rule Expr
 group role = within role m.ParenLeft m.ParenRight as_it_is expression
 
 -- a scalar, or a cell of an array
@@ -177,19 +180,35 @@ abbrev pub assigned : NameId → Option Expr × Expr → Act
 assigned x (None, value) = a.Set x value
 assigned x (Some at, value) = a.SetAt x at value
 
+unfoldable pub cell_index : Rule (Option Expr)
+cell_index = maybe as_it_is (index outside)
+
+unfoldable pub assigned_value : Rule Expr
+assigned_value = mark outside m.Assign ▸ ended
+
 unfoldable pub after_name : Rule (Option Expr × Expr)
-after_name = pair_of (maybe as_it_is (index outside)) (mark outside m.Assign ▸ ended)
+after_name = pair_of cell_index assigned_value
+
+abbrev pub assignment : Rule Act
+assignment = both assigned name after_name
 
 unfoldable pub arguments : Rule (List Expr)
 arguments = within outside m.ParenLeft m.ParenRight as_it_is expressions
 
+-- the reference number and the arguments
+unfoldable pub addressed : Rule (Expr × List Expr)
+addressed = pair_of (index outside) arguments
+
 -- the entry, the reference number and the arguments
 unfoldable pub message : Rule (NameId × Expr × List Expr)
-message = both (λ entry (rest : Expr × List Expr). (entry, rest.0, rest.1)) name (pair_of (index outside) arguments)
+message = both (λ entry (rest : Expr × List Expr). (entry, rest.0, rest.1)) name addressed
+
+unfoldable pub bytes : Rule (Option Expr)
+bytes = maybe as_it_is (word outside w.Bytes ▸ disjunction)
 
 -- the target, and the number of bytes where one is given
 unfoldable pub target : Rule (Expr × Option Expr)
-target = pair_of (word outside w.To ▸ disjunction) (maybe as_it_is (word outside w.Bytes ▸ disjunction))
+target = pair_of (word outside w.To ▸ disjunction) bytes
 
 unfoldable pub after_send : Rule Act
 after_send = both (λ (sent : NameId × Expr × List Expr) (to : Expr × Option Expr). a.Send sent.0 sent.1 sent.2 to.0 to.1) message target ◂ semicolon
@@ -205,7 +224,7 @@ after_repeat = both (λ times body. a.Repeat times body) disjunction act_list
 
 unfoldable pub act : Rule Act
 act =
-    either (both assigned name after_name)
+    either assignment
     (either (word outside w.Send ▸ after_send)
     (either (both (λ _ x. a.Work x) (word outside w.Work) ended)
     (either (both (λ _ x. a.Emit x) (word outside w.Emit) ended)
@@ -220,8 +239,12 @@ block = within outside m.BraceLeft m.BraceRight as_it_is statements
 unfoldable pub parameters : Rule (List NameId)
 parameters = within outside m.ParenLeft m.ParenRight as_it_is names
 
+-- the reference number and the parameters
+unfoldable pub awaited : Rule (Expr × List NameId)
+awaited = pair_of (index outside) parameters
+
 unfoldable pub wait : Rule Wait
-wait = both (λ entry (rest : Expr × List NameId). record { entry = entry; reference = rest.0; params = rest.1 }) name (pair_of (index outside) parameters)
+wait = both (λ entry (rest : Expr × List NameId). record { entry = entry; reference = rest.0; params = rest.1 }) name awaited
 
 unfoldable pub waits : Rule (List Wait)
 waits = with_commas wait
@@ -229,9 +252,12 @@ waits = with_commas wait
 unfoldable pub after_when : Rule Stmt
 after_when = both (λ waited body. s.When waited body) waits block
 
+unfoldable pub set_to : Rule Expr
+set_to = mark outside m.Assign ▸ disjunction
+
 -- a variable and what it is set to
 unfoldable pub setting : Rule (NameId × Expr)
-setting = pair_of name (mark outside m.Assign ▸ disjunction)
+setting = pair_of name set_to
 
 unfoldable pub head : Rule (NameId × Expr × Expr × NameId × Expr)
 head = within outside m.ParenLeft m.ParenRight as_it_is loop_head
@@ -263,17 +289,32 @@ statement =
 
 -- ---- programs
 
+unfoldable pub length_in_brackets : Rule ℕ
+length_in_brackets = within outside m.BracketLeft m.BracketRight as_it_is whole_number
+
 unfoldable pub length_declared : Rule (Option ℕ)
-length_declared = maybe as_it_is (within outside m.BracketLeft m.BracketRight as_it_is whole_number)
+length_declared = maybe as_it_is length_in_brackets
+
+unfoldable pub after_var : Rule VarDecl
+after_var = both (λ x cells. record { name = x; cells = cells }) name length_declared
+
+unfoldable pub var_ended : Rule VarDecl
+var_ended = after_var ◂ semicolon
 
 unfoldable pub variable_declaration : Rule VarDecl
-variable_declaration = word outside w.Var ▸ both (λ x cells. record { name = x; cells = cells }) name length_declared ◂ semicolon
+variable_declaration = word outside w.Var ▸ var_ended
 
 unfoldable pub parameters_declared : Rule ℕ
 parameters_declared = within outside m.ParenLeft m.ParenRight as_it_is whole_number
 
+unfoldable pub after_entry : Rule EntryDecl
+after_entry = both (λ x params. record { name = x; params = params }) name parameters_declared
+
+unfoldable pub entry_ended : Rule EntryDecl
+entry_ended = after_entry ◂ semicolon
+
 unfoldable pub entry_declaration : Rule EntryDecl
-entry_declaration = word outside w.Entry ▸ both (λ x params. record { name = x; params = params }) name parameters_declared ◂ semicolon
+entry_declaration = word outside w.Entry ▸ entry_ended
 
 unfoldable pub chares_declared : Rule ℕ
 chares_declared = word outside w.Chares ▸ count ◂ semicolon
@@ -288,11 +329,14 @@ entry_declarations = many as_it_is entry_declaration
 abbrev pub Parts : Type 0
 Parts = ℕ × List VarDecl × List EntryDecl × List Stmt
 
+unfoldable pub body : Rule (List Stmt)
+body = word outside w.Body ▸ block
+
 unfoldable pub program : Rule Parts
 program =
     both (λ chares (rest : List VarDecl × List EntryDecl × List Stmt). (chares, rest.0, rest.1, rest.2)) chares_declared
     (both (λ vars (rest : List EntryDecl × List Stmt). (vars, rest.0, rest.1)) variable_declarations
-    (pair_of entry_declarations (word outside w.Body ▸ block)))
+    (pair_of entry_declarations body))
 
 -- ---- inside brackets
 

@@ -13,7 +13,7 @@ taken most counts end role t ts rest us is none counted same =
 pub returns : goal.returns
 returns c =
     let left : map terminal (drop (c.self.inside.at + 1) c.self.inside.all.now) ≡ drop 1 c.args.self.now.rest =
-        ap (map terminal) (sym (drop-drop 1 c.self.inside.at c.self.inside.all.now)) ∙ sym (drop-map terminal 1 (drop c.self.inside.at c.self.inside.all.now)) ∙ ap (λ i. drop 1 i.rest) c.self.view_is in
+    ap (map terminal) (sym (drop-drop 1 c.self.inside.at c.self.inside.all.now)) ∙ sym (drop-map terminal 1 (drop c.self.inside.at c.self.inside.all.now)) ∙ ap (λ i. drop 1 i.rest) c.self.view_is in
     let counts = c.args.self.now.counts in
     let item : Item = (role_of c.args.role, terminal c.in-Some.next) in
     let b : c.brackets_after-self-inside.result ≡ (after counts item).brackets = c.brackets_after-self-inside.ensures.value ∙ ap (λ i. (after i.counts item).brackets) c.self.view_is in
