@@ -1,0 +1,4 @@
+pub mod Spelling
+pub mod Lexed
+pub mod Symbols
+pub mod Written

@@ -1,5 +1,5 @@
 -- What the laws of reading share: tests, counts along items, and what comes of steps in turn.
-use Rattle.std.proofs.Common.{get_or, if◌then◌else◌, ◌≡◌, ℕ, zero, suc, pred, ◌+◌, ◌≤◌, ◌<◌, List, [], ◌∷◌, ◌++◌, map, length, Option, Some, None, is_some, Bool, true, false, ◌&&◌, ◌||◌, not, refl, sym, ap, subst, ◌∙◌, append_assoc, arith, nat_le, ◌⊎◌, inl, inr}
+use Rattle.std.proofs.Common.{get_or, if◌then◌else◌, ◌≡◌, ℕ, zero, suc, List, [], ◌∷◌, ◌++◌, Option, Some, None, is_some, Bool, true, false, ◌&&◌, ◌||◌, not, refl, sym, ap, subst, ◌∙◌, append_assoc, ◌⊎◌, inl, inr}
 use Rattle.std.proofs.lemmas.List.{map-append}
 use Rattle.std.proofs.lemmas.Bool.{eqb-true, eq-eqb}
 use Rattle.bs_tree.specs.declared.symbols.Mark.{Mark}
@@ -9,8 +9,8 @@ use Rattle.bs_tree.specs.declared.symbols.Word.TheVariants as w
 use Rattle.bs_tree.specs.Numbered.{same_mark, mark_number, same_word, word_number}
 use Rattle.bs_tree.specs.Rule as g
 use Rattle.bs_tree.specs.Rule.{Terminal, Role, Item, terminals, Choice, a_name, a_number, the_word, the_mark, an_operator, accepted}
-use Rattle.bs_tree.specs.Limits.{Counts, after, after_all, Reason, unexpected, too_deep, too_many, refused, Within, opens, closes}
-use Rattle.bs_parse.specs.Reading.{or_if, Kind, some_name, some_number, word, mark, kind, chosen, starts, Outcome, got, bad, Parser, and_then, allowed, taken, read_one}
+use Rattle.bs_tree.specs.Limits.{Counts, after, after_all, Reason, refused, Within}
+use Rattle.bs_parse.specs.Reading.{or_if, Kind, some_name, some_number, word, mark, kind, chosen, Outcome, got, bad, Parser, and_then, allowed, taken, read_one}
 
 -- ---- tests
 

@@ -1,14 +1,13 @@
 -- What a rule spells within the limits is read by it.
-use Rattle.std.proofs.Common.{◌≡◌, ℕ, zero, suc, pred, ◌+◌, ◌≤◌, ◌<◌, List, [], ◌∷◌, ◌++◌, length, Option, Some, None, is_some, Bool, true, false, ◌&&◌, ◌||◌, not, if◌then◌else◌, refl, sym, ap, subst, ◌∙◌, append_assoc, arith, length-append, ◌⊎◌, inl, inr, nat_le}
+use Rattle.std.proofs.Common.{◌≡◌, ℕ, zero, suc, ◌+◌, ◌≤◌, ◌<◌, List, [], ◌∷◌, ◌++◌, length, Option, Some, None, Bool, true, false, ◌||◌, not, if◌then◌else◌, refl, subst, arith, length-append, inl, inr, nat_le}
 use Rattle.std.proofs.lemmas.Bool.{leb-false}
 use Rattle.bs_tree.specs.declared.symbols.Mark.{Mark}
-use Rattle.bs_tree.specs.Numbered.{same_mark}
 use Rattle.bs_tree.specs.Rule as g
 use Rattle.bs_tree.specs.Rule.{Terminal, Role, Item, terminals, Choice, a_name, a_number, the_word, the_mark, an_operator, accepted, Inside, Rule, one, both, many, maybe, either, within, closing, Spells, SpellsMany, SpellsMaybe}
 use Rattle.bs_tree.specs.Grammar.{content, Inner}
-use Rattle.bs_tree.specs.Limits.{Counts, after, after_all, opens, closes, refused, refused_role, Within, too_deep}
-use Rattle.bs_parse.specs.Reading.{or_if, Kind, some_name, some_number, word, mark, kind, chosen, starts, empty, begins, goes_on, Outcome, got, bad, Parser, and_then, turns, read_one, descend, read_within, read, reading}
-use Rattle.bs_parse.proofs.Basics.{nor_if_left, nor_if_right, both_left, both_right, either_left, either_right, neither_left, neither_right, not_true, same_marks, mark_itself, apart, apart_tells, append_none, after_append, terminals_then, within_left, within_right, one_takes, Test, test, holds, fails}
+use Rattle.bs_tree.specs.Limits.{Counts, after, after_all, opens, closes, refused, Within}
+use Rattle.bs_parse.specs.Reading.{or_if, Kind, mark, kind, starts, empty, begins, goes_on, got, Parser, and_then, turns, read_one, read_within, read, reading}
+use Rattle.bs_parse.proofs.Basics.{nor_if_left, nor_if_right, both_left, both_right, neither_left, neither_right, not_true, mark_itself, apart, apart_tells, after_append, terminals_then, within_left, within_right, one_takes, Test, test, holds, fails}
 use Rattle.bs_parse.proofs.Fine.{fine, Heads, no_items, headed, heads, Level, level, levels, AllFine}
 
 -- ---- the next token

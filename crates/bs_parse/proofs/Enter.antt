@@ -1,11 +1,11 @@
 -- Reading within brackets, from what is read at the opening one, inside and at the closing one.
-use Rattle.std.proofs.Common.{◌≡◌, ℕ, zero, suc, pred, ◌+◌, ◌-◌, ◌≤◌, ◌<◌, List, [], ◌∷◌, Option, Some, None, Bool, true, false, Result, Ok, Err, refl, sym, ap, subst, ◌∙◌, arith}
+use Rattle.std.proofs.Common.{◌≡◌, suc, pred, ◌-◌, ◌≤◌, ◌<◌, List, Some, None, true, false, Result, Ok, Err, refl, sym, ap, subst, ◌∙◌, arith}
 use Rattle.bs_tree.specs.declared.symbols.Mark.{Mark}
 use Rattle.bs_tree.specs.Rule as g
 use Rattle.bs_tree.specs.Rule.{Terminal, Role, Inside, Rule, within, the_mark, closing}
 use Rattle.bs_tree.specs.Grammar.{content}
-use Rattle.bs_tree.specs.Limits.{Counts, after, opens, closes, refused, most_allowed, Reason}
-use Rattle.bs_parse.specs.Reading.{Outcome, got, bad, Parser, and_then, read_one, descend, read_within, read, reading}
+use Rattle.bs_tree.specs.Limits.{after, opens, closes, refused, most_allowed, Reason}
+use Rattle.bs_parse.specs.Reading.{Outcome, got, bad, and_then, read_one, descend, read, reading}
 use Rattle.bs_tree.specs.Rule.{an_operator, operator, one, Choice}
 use Rattle.bs_tree.specs.declared.tree.Op2.{Op2}
 use Rattle.bs_tree.specs.Grammar.{as_it_is}

@@ -1,16 +1,17 @@
 -- Reading a program is exact: what is read is what is spelled, and the refused token is the first that has a fault.
-use Rattle.std.proofs.Common.{◌≡◌, ℕ, zero, suc, pred, ◌+◌, ◌-◌, ◌≤◌, ◌<◌, List, [], ◌∷◌, ◌++◌, length, Option, Some, None, Bool, true, false, ◌&&◌, if◌then◌else◌, refl, sym, ap, subst, ◌∙◌, arith, length-append, nat_le}
+use Rattle.std.proofs.Common.{◌≡◌, ℕ, suc, pred, ◌+◌, ◌-◌, ◌≤◌, ◌<◌, List, [], ◌∷◌, ◌++◌, length, None, refl, sym, ap, subst, ◌∙◌, arith, length-append}
 use Rattle.std.proofs.lemmas.Bool.{lt-leb}
 use Rattle.bs_tree.specs.Rule.{Terminal, Role, opening, outside, operand, operator, Item, terminals, Spells}
 use Rattle.bs_tree.specs.Grammar.{program, Parts, Inner}
 use Rattle.bs_tree.specs.Limits.{Counts, after, after_all, opens, closes, operators_after, statements_after, refused, refused_role, Within, most_allowed, none_yet, Reason, unexpected}
+use Rattle.bs_tree.specs.Fault.{IsProgram, BeginsProgram, Same, Cause, stray, passes, IsFirstFault}
 use Rattle.bs_parse.specs.Reading.{Outcome, got, bad, read, reading}
 use Rattle.bs_parse.proofs.Basics.{Test, test, holds, fails, append_none, got_rest, got_bad}
 use Rattle.bs_parse.proofs.Foresight.{all_fine, program_fine}
 use Rattle.bs_parse.proofs.Complete.{complete}
 use Rattle.bs_parse.proofs.Sound.{Came, sound}
-use Rattle.bs_parse.proofs.Viable.{Begins, Stopped, stops}
-use Rattle.bs_parse.proofs.Local.{Higher, Same, Kept, Failed, Local, local}
+use Rattle.bs_parse.proofs.Viable.{Begins, Stopped, stops, Why, stray as stray_why, passes as passes_why}
+use Rattle.bs_parse.proofs.Local.{Higher, Local, local}
 
 abbrev pub whole : Counts → List Terminal → Outcome Parts
 whole most ts = read most (reading most most.brackets) program none_yet ts
@@ -113,3 +114,47 @@ none_behind used t rest p end h next d items q s is =
     let two : whole (room items) (terminals items) ≡ got q (after_all none_yet items) [] = spelled_is_read (room items) d items q s (room_enough items) in
     let ends : [] ≡ t ∷ next = got_rest (sym two ∙ ap (whole (room items)) (is ∙ ap (λ us. us ++ t ∷ next) (sym same_used)) ∙ one) in
     absurd (cc)
+
+-- ---- what reading a whole program comes to
+
+terminals_length : (items : List Item) → length (terminals items) ≡ length items
+terminals_length [] = refl
+terminals_length (item ∷ items) = ap suc (terminals_length items)
+
+placed : (ts rest : List Terminal) (before : List Item) → ts ≡ terminals before ++ rest → length ts - length rest ≡ length before
+placed ts rest before is = omega (arith, ap length is, length-append (terminals before) rest, terminals_length before)
+
+pub is_program : (ts : List Terminal) (p : Parts) (end : Counts) → whole most_allowed ts ≡ got p end [] → IsProgram ts p
+is_program ts p end h =
+    let x = found ts p end [] h in
+    record { items = x.used; is = sym (x.is ∙ append_none (terminals x.used)); depth = 64; spells = x.spells; allows = x.allows }
+
+begins : (items : List Item) → Begins program items → BeginsProgram items
+begins items v = record { more = v.more; depth = v.depth; parts = v.value; spells = v.spells }
+
+cause_of : (ts : List Terminal) (used extra : List Item) (rest : List Terminal) (reason : Reason) → whole most_allowed ts ≡ bad reason rest → ts ≡ terminals used ++ rest → Why most_allowed (after_all none_yet used) reason rest extra → Begins program (used ++ extra) → Cause used rest reason
+cause_of ts used _ _ _ h is (stray_why rest) v =
+    stray (begins used (subst (λ xs. Begins program xs) (append_none used) v)) (none_goes_on (terminals used) rest (subst (λ us. whole most_allowed us ≡ bad unexpected rest) is h))
+cause_of ts used _ _ _ h is (passes_why role t others reason why) v = passes role t others refl why (begins (used ++ (role, t) ∷ []) v)
+
+pub is_fault : (ts : List Terminal) (reason : Reason) (rest : List Terminal) → whole most_allowed ts ≡ bad reason rest → IsFirstFault ts (length ts - length rest) reason
+is_fault ts reason rest h =
+    let s = stopped ts reason rest h in
+    record { before = s.used; rest = rest; is = s.is; at = placed ts rest s.used s.is; allows = s.allows; cause = cause_of ts s.used s.extra rest reason h s.is s.why s.goes }
+
+pub is_trailing : (ts : List Terminal) (p : Parts) (end : Counts) (t : Terminal) (rest : List Terminal) → whole most_allowed ts ≡ got p end (t ∷ rest) → IsFirstFault ts (length ts - length (t ∷ rest)) unexpected
+is_trailing ts p end t rest h =
+    let x = found ts p end (t ∷ rest) h in
+    let h' : whole most_allowed (terminals x.used ++ t ∷ rest) ≡ got p end (t ∷ rest) = subst (λ us. whole most_allowed us ≡ got p end (t ∷ rest)) x.is h in
+    record {
+      before = x.used;
+      rest = t ∷ rest;
+      is = x.is;
+      at = placed ts (t ∷ rest) x.used x.is;
+      allows = x.allows;
+      cause = stray (record { more = []; depth = 64; parts = p; spells = subst (λ xs. Spells (Inner 64) program xs p) (sym (append_none x.used)) x.spells })
+          (λ next same d items q s is. none_behind (terminals x.used) t rest p end h' same.0 d items q s (is ∙ ap (λ us. terminals x.used ++ us) same.1));
+    }
+
+pub is_read : (ts : List Terminal) (p : Parts) → IsProgram ts p → (end : Counts) × (whole most_allowed ts ≡ got p end [])
+is_read ts p s = (after_all none_yet s.items, subst (λ us. whole most_allowed us ≡ got p (after_all none_yet s.items) []) s.is (spelled_is_read most_allowed s.depth s.items p s.spells s.allows))

@@ -1,14 +1,13 @@
 -- What makes a rule readable with one token of foresight, and what the items that it spells are like.
-use Rattle.std.proofs.Common.{◌≡◌, ℕ, zero, suc, pred, pos, ◌+◌, ◌≤◌, ◌<◌, List, [], ◌∷◌, ◌++◌, length, Option, Some, None, is_some, Bool, true, false, ◌&&◌, ◌||◌, not, if◌then◌else◌, refl, sym, ap, subst, ◌∙◌, append_assoc, arith, ◌⊎◌, inl, inr}
+use Rattle.std.proofs.Common.{◌≡◌, ℕ, zero, suc, pos, List, [], ◌∷◌, ◌++◌, Option, Some, None, is_some, Bool, true, false, ◌&&◌, ◌||◌, not, refl, ap, subst, ◌∙◌, inl, inr}
 use Rattle.bs_tree.specs.declared.symbols.Mark.{Mark}
 use Rattle.bs_tree.specs.declared.symbols.Mark.TheVariants as m
-use Rattle.bs_tree.specs.Numbered.{same_mark}
 use Rattle.bs_tree.specs.Rule as g
 use Rattle.bs_tree.specs.Rule.{Terminal, Role, Item, terminals, Choice, a_name, a_number, the_word, the_mark, an_operator, accepted, Inside, Rule, one, both, many, maybe, either, within, closing, Spells, SpellsMany, SpellsMaybe}
 use Rattle.bs_tree.specs.Grammar.{content, Inner}
 use Rattle.bs_tree.specs.Limits.{Counts, after, after_all, opens, closes}
-use Rattle.bs_parse.specs.Reading.{or_if, Kind, some_name, some_number, word, mark, kind, chosen, starts, empty, begins, goes_on}
-use Rattle.bs_parse.proofs.Basics.{or_if_left, or_if_right, both_left, both_right, either_left, either_right, not_true, same_marks, mark_itself, all_of, all_marks, every_mark, each_mark, apart, append_none, accepted_chosen, after_append, some_if, Test, test, holds, fails}
+use Rattle.bs_parse.specs.Reading.{or_if, Kind, mark, kind, empty, begins, goes_on}
+use Rattle.bs_parse.proofs.Basics.{or_if_left, or_if_right, both_left, both_right, either_left, either_right, not_true, same_marks, mark_itself, all_marks, every_mark, each_mark, apart, accepted_chosen, after_append, some_if}
 
 -- some token is accepted
 abbrev pub some_mark : {A : Type 0} → (Mark → Option A) → List Mark → Bool

@@ -8,3 +8,4 @@ pub mod Local
 pub mod Enter
 pub mod Onward
 pub mod Exact
+pub mod Ends

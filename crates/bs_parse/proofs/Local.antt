@@ -1,16 +1,17 @@
 -- What is read, or where a token is unexpected, depends on the tokens up to the next one alone, and higher limits don't change it.
-use Rattle.std.proofs.Common.{◌≡◌, ℕ, zero, suc, pred, ◌+◌, ◌≤◌, ◌<◌, List, [], ◌∷◌, ◌++◌, length, Option, Some, None, is_some, Bool, true, false, ◌&&◌, ◌||◌, not, if◌then◌else◌, refl, sym, ap, subst, ◌∙◌, append_assoc, arith, length-append, ◌⊎◌, inl, inr, nat_le}
+use Rattle.std.proofs.Common.{◌≡◌, ℕ, zero, suc, ◌+◌, ◌≤◌, ◌<◌, List, [], ◌∷◌, ◌++◌, length, Option, Some, None, Bool, true, false, ◌&&◌, not, if◌then◌else◌, refl, sym, ap, subst, ◌∙◌, append_assoc, arith, length-append, nat_le}
 use Rattle.std.proofs.lemmas.Bool.{leb-false, lt-leb}
 use Rattle.bs_tree.specs.declared.symbols.Mark.{Mark}
 use Rattle.bs_tree.specs.Rule as g
 use Rattle.bs_tree.specs.Rule.{Terminal, Role, opening, outside, operand, operator, Item, terminals, Choice, a_name, a_number, the_word, the_mark, an_operator, accepted, Inside, Rule, one, both, many, maybe, either, within, closing, Spells, SpellsMany, SpellsMaybe}
 use Rattle.bs_tree.specs.Grammar.{content, Inner}
-use Rattle.bs_tree.specs.Limits.{Counts, after, after_all, opens, closes, refused, refused_role, Within, Reason, unexpected, too_deep, too_many}
-use Rattle.bs_parse.specs.Reading.{Kind, kind, starts, empty, begins, goes_on, Outcome, got, bad, Parser, and_then, turns, taken, allowed, read_one, descend, read_within, read, reading}
-use Rattle.bs_parse.proofs.Basics.{both_left, both_right, not_true, append_none, one_got, one_takes, Went, went, both_went, Stood, at_first, at_next, one_stood, shaped, shaped_bad, got_value, got_counts, got_rest, got_bad, bad_got, bad_reason, bad_rest, Test, test, holds, fails}
-use Rattle.bs_parse.proofs.Fine.{fine, AllFine, Level, level, levels, Heads, heads}
-use Rattle.bs_parse.proofs.Complete.{not_deep, bracket_after, accepted_itself, some_terminals}
-use Rattle.bs_parse.proofs.Sound.{Came, Sound, sound, mark_token, shut, Bracketed, bracketed}
+use Rattle.bs_tree.specs.Limits.{Counts, after, opens, refused, refused_role, Reason, unexpected, too_deep, too_many}
+use Rattle.bs_tree.specs.Fault.{Same}
+use Rattle.bs_parse.specs.Reading.{Kind, starts, empty, begins, Outcome, got, bad, Parser, and_then, turns, taken, allowed, read_one, descend, read_within, read, reading}
+use Rattle.bs_parse.proofs.Basics.{both_left, both_right, not_true, one_got, one_takes, Went, went, both_went, Stood, at_first, at_next, one_stood, shaped, shaped_bad, got_value, got_counts, got_rest, got_bad, bad_reason, bad_rest, Test, test, holds, fails}
+use Rattle.bs_parse.proofs.Fine.{fine, AllFine, level, levels, heads}
+use Rattle.bs_parse.proofs.Complete.{not_deep, bracket_after, some_terminals}
+use Rattle.bs_parse.proofs.Sound.{sound, mark_token, shut, bracketed}
 
 -- ---- higher limits
 
@@ -63,10 +64,6 @@ refused_expected most counts item h = by (opens item.1 && nat_le most.brackets c
     by false h = role_expected most counts item.0 h
 
 -- ---- the same next token, or none
-
-abbrev pub Same : List Terminal → List Terminal → Type 0
-Same [] ys = ys ≡ []
-Same (t ∷ xs) ys = (zs : List Terminal) × (ys ≡ t ∷ zs)
 
 same_on : (used ts rest next : List Terminal) → ts ≡ used ++ rest → Same rest next → Same ts (used ++ next)
 same_on [] ts rest next is same = subst (λ us. Same us next) (sym is) same

@@ -1,8 +1,8 @@
 -- One turn of a loop that reads any number of a rule.
-use Rattle.std.proofs.Common.{◌≡◌, ℕ, zero, suc, pred, ◌+◌, ◌-◌, ◌≤◌, ◌<◌, List, [], ◌∷◌, ◌++◌, append_assoc, Err, Bool, true, false, refl, sym, ap, subst, ◌∙◌, arith}
+use Rattle.std.proofs.Common.{◌≡◌, ℕ, zero, suc, ◌-◌, List, [], ◌∷◌, ◌++◌, append_assoc, Err, true, false, refl, sym, ap, subst, ◌∙◌}
 use Rattle.bs_tree.specs.Rule.{Terminal, Rule}
-use Rattle.bs_tree.specs.Limits.{Counts, most_allowed, Reason}
-use Rattle.bs_parse.specs.Reading.{Outcome, got, bad, Parser, and_then, turns, starts, begins, read, reading, Kind}
+use Rattle.bs_tree.specs.Limits.{most_allowed, Reason}
+use Rattle.bs_parse.specs.Reading.{Outcome, got, bad, and_then, turns, starts, begins, read, reading}
 use Rattle.bs_tree.specs.Rule.{many}
 use Rattle.bs_tree.specs.Grammar.{as_it_is}
 use Rattle.bs_parse.specs.declared.cursor.Stop.{Stop}

@@ -1,12 +1,12 @@
 -- What is read is spelled, within the limits.
-use Rattle.std.proofs.Common.{◌≡◌, ℕ, zero, suc, pred, ◌+◌, ◌≤◌, ◌<◌, List, [], ◌∷◌, ◌++◌, length, Option, Some, None, is_some, Bool, true, false, ◌&&◌, ◌||◌, not, if◌then◌else◌, refl, sym, ap, subst, ◌∙◌, append_assoc, arith, length-append, ◌⊎◌, inl, inr, nat_le}
+use Rattle.std.proofs.Common.{◌≡◌, ℕ, zero, suc, List, [], ◌∷◌, ◌++◌, length, Option, Some, None, Bool, true, false, if◌then◌else◌, refl, sym, ap, subst, ◌∙◌, inl, inr}
 use Rattle.bs_tree.specs.declared.symbols.Mark.{Mark}
 use Rattle.bs_tree.specs.Rule as g
 use Rattle.bs_tree.specs.Rule.{Terminal, Role, Item, terminals, Choice, a_name, a_number, the_word, the_mark, an_operator, accepted, Inside, Rule, one, both, many, maybe, either, within, closing, Spells, SpellsMany, SpellsMaybe}
 use Rattle.bs_tree.specs.Grammar.{content, Inner}
-use Rattle.bs_tree.specs.Limits.{Counts, after, after_all, opens, closes, refused, refused_role, Within, Reason, too_deep}
-use Rattle.bs_parse.specs.Reading.{Kind, some_name, some_number, word, mark, kind, chosen, starts, empty, begins, goes_on, Outcome, got, bad, Parser, and_then, turns, read_one, descend, read_within, read, reading}
-use Rattle.bs_parse.proofs.Basics.{both_left, both_right, same_marks, append_none, after_append, terminals_then, within_join, one_got, Took, Went, went, both_went, shaped, some_if, got_value, got_counts, got_rest, bad_got, Test, test, holds, fails}
+use Rattle.bs_tree.specs.Limits.{Counts, after, after_all, refused, Within, too_deep}
+use Rattle.bs_parse.specs.Reading.{Kind, starts, begins, got, bad, Parser, and_then, turns, read_one, read_within, read, reading}
+use Rattle.bs_parse.proofs.Basics.{same_marks, after_append, terminals_then, within_join, one_got, Went, went, both_went, shaped, some_if, got_value, got_counts, got_rest, bad_got}
 
 -- what was read, and where it leaves off
 pub record Came {A : Type 0} (most : Counts) (R : List Item → A → Type 0) (counts : Counts) (ts : List Terminal) (a : A) (end : Counts) (rest : List Terminal) : Type 0 where

@@ -1,21 +1,19 @@
 -- Where reading stops, what was read and the refused token's limit go on to something that is spelled.
-use Rattle.std.proofs.Common.{◌≡◌, ℕ, zero, suc, pred, pos, max, ◌+◌, ◌≤◌, ◌<◌, List, [], ◌∷◌, ◌++◌, length, Option, Some, None, is_some, Bool, true, false, ◌&&◌, ◌||◌, not, if◌then◌else◌, refl, sym, ap, subst, ◌∙◌, append_assoc, arith, length-append, ◌⊎◌, inl, inr, nat_le}
-use Rattle.bs_tree.specs.declared.symbols.Word.TheVariants as w
+use Rattle.std.proofs.Common.{◌≡◌, ℕ, zero, suc, pos, ◌+◌, ◌≤◌, List, [], ◌∷◌, ◌++◌, length, Option, Some, None, is_some, Bool, true, false, if◌then◌else◌, refl, sym, ap, subst, ◌∙◌, append_assoc, arith, ◌⊎◌, inl, inr}
 use Rattle.bs_tree.specs.declared.symbols.Mark.{Mark}
 use Rattle.bs_tree.specs.declared.symbols.Mark.TheVariants as m
 use Rattle.bs_tree.specs.declared.tree.Expr.{Expr}
 use Rattle.bs_tree.specs.declared.tree.Expr.TheVariants as e
 use Rattle.bs_tree.specs.Rule as g
 use Rattle.bs_tree.specs.Rule.{Terminal, Role, outside, operand, Item, terminals, Choice, a_name, a_number, the_word, the_mark, an_operator, accepted, Inside, whole_number, statements, acts, expression, expressions, names, loop_head, Rule, one, both, many, maybe, either, within, closing, Spells, SpellsMany, SpellsMaybe}
-use Rattle.bs_tree.specs.declared.tree.NameId.{NameId}
 use Rattle.bs_tree.specs.declared.tree.Op2.{Op2}
-use Rattle.bs_tree.specs.Grammar.{setting, set_to, ended, name, mark as mark', content, Inner, as_name, as_it_is, primary, unary, product, sum, comparison, conjunction, disjunction, chain, multiplies, adds, joins, chooses}
-use Rattle.bs_tree.specs.Limits.{Counts, after, after_all, opens, closes, refused, refused_role, Within, Reason, unexpected, too_deep, too_many}
-use Rattle.bs_parse.specs.Reading.{Kind, some_name, some_number, word, mark, kind, chosen, starts, empty, begins, goes_on, Outcome, got, bad, Parser, and_then, turns, taken, allowed, read_one, descend, read_within, read, reading}
-use Rattle.bs_parse.proofs.Basics.{both_left, both_right, one_of, same_marks, all_marks, append_none, after_append, terminals_then, within_join, one_got, Went, went, both_went, Stood, at_first, at_next, one_stood, shaped, shaped_bad, some_if, got_value, got_counts, got_rest, got_bad, bad_got, bad_reason, bad_rest, mark_itself, word_itself}
+use Rattle.bs_tree.specs.Grammar.{setting, set_to, ended, name, mark as mark', content, Inner, as_name, primary, unary, product, sum, comparison, conjunction, disjunction, chain, multiplies, adds, joins, chooses}
+use Rattle.bs_tree.specs.Limits.{Counts, after, after_all, opens, refused, Within, Reason, unexpected}
+use Rattle.bs_parse.specs.Reading.{Kind, starts, begins, got, bad, Parser, and_then, turns, taken, allowed, read_one, descend, read_within, read, reading}
+use Rattle.bs_parse.proofs.Basics.{both_left, both_right, one_of, all_marks, append_none, after_append, within_join, one_got, Stood, at_first, at_next, one_stood, shaped_bad, got_bad, bad_reason, bad_rest, mark_itself, word_itself}
 use Rattle.bs_parse.proofs.Fine.{fine, lively, plain, some_mark, AllFine, Level, level, levels}
 use Rattle.bs_parse.proofs.Complete.{not_deep, bracket_after, accepted_itself}
-use Rattle.bs_parse.proofs.Sound.{Came, Sound, sound, sound_inside, mark_token, join_is, shut}
+use Rattle.bs_parse.proofs.Sound.{Sound, sound, sound_inside, mark_token, join_is, shut}
 
 -- ---- what is spelled with some brackets left is spelled with more of them
 

@@ -1,12 +1,12 @@
 -- Reading by a rule as a function: the token that comes next decides what is read.
-use Rattle.std.specs.Prelude.{◌≡◌, ℕ, zero, suc, List, [], ◌∷◌, length, Option, Some, None, is_some, Bool, true, false, ◌&&◌, ◌||◌, not, if◌then◌else◌}
+use Rattle.std.specs.Prelude.{ℕ, zero, suc, List, [], ◌∷◌, length, Option, Some, None, is_some, Bool, true, false, ◌&&◌, ◌||◌, if◌then◌else◌}
 use Rattle.bs_tree.specs.declared.symbols.Word.{Word}
 use Rattle.bs_tree.specs.declared.symbols.Mark.{Mark}
 use Rattle.bs_tree.specs.Numbered.{same_word, same_mark}
 use Rattle.bs_tree.specs.Rule as g
 use Rattle.bs_tree.specs.Rule.{Terminal, Role, Choice, a_name, a_number, the_word, the_mark, an_operator, accepted, Inside, Rule, one, both, many, maybe, either, within, closing}
 use Rattle.bs_tree.specs.Grammar.{content}
-use Rattle.bs_tree.specs.Limits.{Counts, after, Reason, unexpected, too_deep, too_many, refused}
+use Rattle.bs_tree.specs.Limits.{Counts, after, Reason, unexpected, too_deep, refused}
 
 -- a token without its name or number
 pub data Kind : Type 0 where

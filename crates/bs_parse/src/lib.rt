@@ -9,3 +9,4 @@ mod expressions;
 mod program;
 mod statements;
 mod tokens;
+mod whole;

@@ -5,3 +5,4 @@ pub mod Numbered
 pub mod Rule
 pub mod Grammar
 pub mod Limits
+pub mod Fault

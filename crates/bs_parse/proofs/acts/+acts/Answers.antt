@@ -1,5 +1,5 @@
-use Rattle.std.proofs.Common.{◌≡◌, ◌+◌, ◌-◌, ◌<◌, arith, refl, sym, ap, ◌∙◌, ◌∷◌, ◌++◌}
-use Rattle.bs_tree.specs.Rule.{outside, opening, expressions, statements, acts, names, loop_head, whole_number}
+use Rattle.std.proofs.Common.{◌+◌, ◌-◌, arith, refl, sym, ◌∙◌, ◌++◌}
+use Rattle.bs_tree.specs.Rule.{outside, acts}
 use Rattle.bs_tree.specs.Grammar as rule
 use Rattle.bs_tree.specs.Grammar.{act, act_list}
 use Rattle.bs_tree.specs.declared.symbols.Mark.TheVariants as m

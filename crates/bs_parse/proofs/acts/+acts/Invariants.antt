@@ -1,7 +1,7 @@
 use Rattle.std.proofs.Common.{◌≡◌, ℕ, ◌+◌, ◌-◌, ◌*◌, ◌++◌}
-use Rattle.bs_tree.specs.Rule.{statements, acts}
+use Rattle.bs_tree.specs.Rule.{acts}
 use Rattle.bs_tree.specs.Grammar as rule
-use Rattle.bs_parse.specs.Seen.{Input, by_rule, onward, further}
+use Rattle.bs_parse.specs.Seen.{Input, by_rule, further}
 use Rattle.bs_parse.proofs.acts.+acts.Given as goal
 
 abbrev left : Input → ℕ → ℕ

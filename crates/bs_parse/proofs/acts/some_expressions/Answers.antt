@@ -1,10 +1,7 @@
-use Rattle.std.proofs.Common.{◌≡◌, ◌+◌, ◌-◌, ◌<◌, arith, refl, sym, ap, ◌∙◌, ◌∷◌, ◌++◌}
-use Rattle.bs_tree.specs.Rule.{outside, opening, expressions, statements, acts, names, loop_head, whole_number}
+use Rattle.std.proofs.Common.{◌+◌, ◌-◌, arith, sym, ◌∙◌, ◌++◌}
 use Rattle.bs_tree.specs.Grammar as rule
 use Rattle.bs_tree.specs.Grammar.{disjunction}
-use Rattle.bs_tree.specs.declared.symbols.Mark.TheVariants as m
-use Rattle.bs_parse.proofs.Enter.{brackets}
-use Rattle.bs_parse.proofs.Onward.{turned, further_turned, pushed}
+use Rattle.bs_parse.proofs.Onward.{turned, pushed}
 use Rattle.bs_parse.proofs.acts.some_expressions.Goals as goal
 
 pub loop-turn-preserved : goal.loop-turn-preserved

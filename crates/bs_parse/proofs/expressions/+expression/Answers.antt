@@ -1,4 +1,4 @@
-use Rattle.std.proofs.Common.{◌≡◌, ◌+◌, ◌-◌, ◌*◌, ◌<◌, arith, refl, sym, ap, ◌∙◌, ◌∷◌}
+use Rattle.std.proofs.Common.{◌+◌, ◌-◌, arith, refl, sym, ap, ◌∙◌}
 use Rattle.bs_tree.specs.Rule.{expression}
 use Rattle.bs_tree.specs.Grammar as rule
 use Rattle.bs_tree.specs.Grammar.{group, index}

@@ -1,9 +1,6 @@
-use Rattle.std.proofs.Common.{◌≡◌, ◌+◌, ◌-◌, ◌<◌, arith, refl, sym, ap, ◌∙◌, ◌∷◌, ◌++◌}
-use Rattle.bs_tree.specs.Rule.{outside, opening, expressions, statements, acts, names, loop_head, whole_number}
+use Rattle.std.proofs.Common.{◌+◌, ◌-◌, arith, sym, ◌∙◌, ◌++◌}
 use Rattle.bs_tree.specs.Grammar as rule
 use Rattle.bs_tree.specs.Grammar.{entry_declarations, entry_declaration}
-use Rattle.bs_tree.specs.declared.symbols.Mark.TheVariants as m
-use Rattle.bs_parse.proofs.Enter.{brackets}
 use Rattle.bs_parse.proofs.Onward.{further_turned, further_stops, pushed}
 use Rattle.bs_parse.proofs.program.entry_declarations.Goals as goal
 

@@ -1,10 +1,9 @@
-use Rattle.std.proofs.Common.{◌≡◌, ◌+◌, ◌-◌, ◌<◌, arith, refl, sym, ap, ◌∙◌, ◌∷◌, ◌++◌}
-use Rattle.bs_tree.specs.Rule.{a_number, outside, opening, expressions, statements, acts, names, loop_head, whole_number}
+use Rattle.std.proofs.Common.{refl}
+use Rattle.bs_tree.specs.Rule.{a_number, outside, whole_number}
 use Rattle.bs_tree.specs.Grammar as rule
 use Rattle.bs_tree.specs.Grammar.{length_in_brackets}
 use Rattle.bs_tree.specs.declared.symbols.Mark.TheVariants as m
 use Rattle.bs_parse.proofs.Enter.{brackets, token_follows}
-use Rattle.bs_parse.proofs.Onward.{turned, further_turned, pushed}
 use Rattle.bs_parse.proofs.program.length.Goals as goal
 
 pub returns : goal.returns

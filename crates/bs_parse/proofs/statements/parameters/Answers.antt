@@ -1,10 +1,8 @@
-use Rattle.std.proofs.Common.{◌≡◌, ◌+◌, ◌-◌, ◌<◌, arith, refl, sym, ap, ◌∙◌, ◌∷◌, ◌++◌}
-use Rattle.bs_tree.specs.Rule.{outside, opening, expressions, statements, acts, names, loop_head, whole_number}
-use Rattle.bs_tree.specs.Grammar as rule
+use Rattle.std.proofs.Common.{refl}
+use Rattle.bs_tree.specs.Rule.{outside, names}
 use Rattle.bs_tree.specs.Grammar.{parameters}
 use Rattle.bs_tree.specs.declared.symbols.Mark.TheVariants as m
 use Rattle.bs_parse.proofs.Enter.{brackets}
-use Rattle.bs_parse.proofs.Onward.{turned, further_turned, pushed}
 use Rattle.bs_parse.proofs.statements.parameters.Goals as goal
 
 pub returns : goal.returns

@@ -1,7 +1,6 @@
-use Rattle.std.proofs.Common.{◌≡◌, ℕ, ◌+◌, ◌-◌, ◌*◌, ◌++◌}
-use Rattle.bs_tree.specs.Rule.{statements, acts}
+use Rattle.std.proofs.Common.{◌≡◌, ◌-◌, ◌++◌}
 use Rattle.bs_tree.specs.Grammar as rule
-use Rattle.bs_parse.specs.Seen.{Input, by_rule, onward, further}
+use Rattle.bs_parse.specs.Seen.{by_rule, onward}
 use Rattle.bs_parse.proofs.statements.some_names.Given as goal
 
 abbrev pub invariant-loop-turn : goal.invariant-loop-turn

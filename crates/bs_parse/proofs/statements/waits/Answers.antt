@@ -1,12 +1,9 @@
-use Rattle.std.proofs.Common.{◌≡◌, ◌+◌, ◌-◌, ◌<◌, arith, refl, sym, ap, ◌∙◌, ◌∷◌, ◌++◌}
-use Rattle.bs_tree.specs.Rule.{outside, opening, expressions, statements, acts, names, loop_head, whole_number}
+use Rattle.std.proofs.Common.{◌+◌, ◌-◌, arith, sym, ap, ◌∙◌, ◌++◌}
 use Rattle.bs_tree.specs.Grammar as rule
 use Rattle.bs_tree.specs.Grammar.{wait, waits}
-use Rattle.bs_tree.specs.declared.symbols.Mark.TheVariants as m
 use Rattle.bs_parse.specs.Reading.{got}
 use Rattle.bs_parse.proofs.Basics.{append_none}
-use Rattle.bs_parse.proofs.Enter.{brackets}
-use Rattle.bs_parse.proofs.Onward.{onward_ends, turned, further_turned, pushed}
+use Rattle.bs_parse.proofs.Onward.{onward_ends, turned, pushed}
 use Rattle.bs_parse.proofs.statements.waits.Goals as goal
 
 pub loop-turn-preserved : goal.loop-turn-preserved

@@ -6,7 +6,7 @@ use Rattle.bs_tree.specs.declared.symbols.Mark.TheVariants as m
 use Rattle.bs_tree.specs.Rule as g
 use Rattle.bs_tree.specs.Rule.{Terminal}
 use Rattle.bs_tree.specs.Grammar.{with_commas, index, group, primary, unary, product, sum, comparison, conjunction, disjunction}
-use Rattle.bs_parse.specs.Reading.{Kind, some_name, some_number, word, mark, kind, starts, begins}
+use Rattle.bs_parse.specs.Reading.{word, mark, starts, begins}
 use Rattle.bs_parse.specs.Seen.{begins_operand}
 use Rattle.bs_parse.proofs.cursor.Cursor.begins_expression.Goals as goal
 

@@ -1,4 +1,4 @@
-use Rattle.std.proofs.Common.{◌≡◌, ℕ, ◌+◌, List, [], ◌∷◌, drop, map, length, Option, Some, None, refl, sym, ap, ◌∙◌}
+use Rattle.std.proofs.Common.{◌≡◌, ◌+◌, List, ◌∷◌, drop, map, None, sym, ap, ◌∙◌}
 use Rattle.std.proofs.lemmas.List.{drop-drop, drop-map}
 use Rattle.bs_tree.specs.Limits.{Counts, most_allowed, refused, after}
 use Rattle.bs_tree.specs.Rule.{Terminal, Role, Item}
