@@ -1,4 +1,4 @@
-//! Reads a program text into its tree, and writes a tree as its canonical text.
+//! Reads the tokens of a program into its tree.
 //!
 //! `docs/program-text.md` says how a program is written.
 #![tactic(auto)]
