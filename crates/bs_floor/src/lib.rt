@@ -4,7 +4,7 @@
 //! station. Whoever has a station posts an item to the end of its history, or serves the first item
 //! that isn't served. When the floor is closed, each station's state is what serving its items in
 //! order gives, and each post and each serve stands exactly once in the lists of the seats.
-//! `docs/model.md` tells what a station's history is.
+//! `docs/stations.md` tells what a station's history is.
 //!
 //! # Types that cross threads
 //!

@@ -1,0 +1,11 @@
+pub mod Basics
+pub mod Fine
+pub mod Complete
+pub mod Foresight
+pub mod Sound
+pub mod Viable
+pub mod Local
+pub mod Enter
+pub mod Onward
+pub mod Exact
+pub mod Ends
