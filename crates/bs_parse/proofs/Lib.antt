@@ -9,3 +9,5 @@ pub mod Enter
 pub mod Onward
 pub mod Exact
 pub mod Ends
+pub mod Refused
+pub mod OneFault
