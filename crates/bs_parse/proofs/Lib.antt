@@ -11,3 +11,8 @@ pub mod Exact
 pub mod Ends
 pub mod Refused
 pub mod OneFault
+pub mod Measured
+pub mod NamesIn
+pub mod Openings
+pub mod Places
+pub mod Counted
