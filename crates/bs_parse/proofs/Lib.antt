@@ -9,3 +9,6 @@ pub mod Enter
 pub mod Onward
 pub mod Exact
 pub mod Ends
+pub mod Numbering
+pub mod Taking
+pub mod Told

@@ -2,3 +2,4 @@ pub mod Reading
 pub mod Seen
 pub mod Whole
 pub mod Text
+pub mod Names

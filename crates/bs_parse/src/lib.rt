@@ -6,6 +6,7 @@
 mod acts;
 mod cursor;
 mod expressions;
+mod names;
 mod program;
 mod statements;
 mod text;
