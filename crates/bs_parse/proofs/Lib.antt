@@ -12,3 +12,5 @@ pub mod Ends
 pub mod Numbering
 pub mod Taking
 pub mod Told
+pub mod Refused
+pub mod OneFault

@@ -6,6 +6,7 @@
 mod acts;
 mod cursor;
 mod expressions;
+pub mod laws;
 mod names;
 mod program;
 mod statements;
