@@ -14,3 +14,4 @@ pub mod Taking
 pub mod Told
 pub mod Refused
 pub mod OneFault
+pub mod OneText

@@ -9,7 +9,7 @@ use Rattle.bs_tree.specs.Rule as g
 use Rattle.bs_tree.specs.Rule.{Terminal}
 use Rattle.bs_tree.specs.declared.tree.Name.{Name}
 use Rattle.bs_parse.specs.Text.{is_among, known_with, known_after, place_of, numbered, terminals_of, as_name}
-use Rattle.bs_parse.specs.Names.{texts, place_among}
+use Rattle.bs_parse.specs.Naming.{texts, place_among}
 use Rattle.bs_parse.proofs.Basics.{Test, test, holds, fails, either_left}
 
 -- ---- texts that are equal

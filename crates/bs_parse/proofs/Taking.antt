@@ -17,7 +17,7 @@ use Rattle.bs_parse.specs.declared.cursor.Lexeme.TheVariants as lexeme
 use Rattle.bs_parse.specs.declared.names.Names.{Names}
 use Rattle.bs_parse.specs.Seen.{terminal}
 use Rattle.bs_parse.specs.Text.{known_after, place_of, numbered, names_of, terminals_of, as_name}
-use Rattle.bs_parse.specs.Names.{texts, place_among, IsTied, optional, Takes}
+use Rattle.bs_parse.specs.Naming.{texts, place_among, IsTied, optional, Takes}
 use Rattle.bs_parse.proofs.Basics.{append_none}
 use Rattle.bs_parse.proofs.Numbering.{numbering, numbering_all, not_among, known_new, place_behind, place_among_more, texts_append, texts_length, texts_back}
 

@@ -16,7 +16,7 @@ use Rattle.bs_lex.specs.declared.token.TokenKind.TheVariants as kind
 use Rattle.bs_lex.specs.Lexed.{lexed}
 use Rattle.bs_lex.specs.Symbols.{symbols, StandsFrom}
 use Rattle.bs_parse.specs.Text.{names_of, numbered, terminals_of, as_name, Spells, IsFaultAt, IsFault, fault_at}
-use Rattle.bs_parse.specs.Names.{IsWithin}
+use Rattle.bs_parse.specs.Naming.{IsWithin}
 
 -- ---- where tokens stand
 

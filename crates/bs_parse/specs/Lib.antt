@@ -2,4 +2,5 @@ pub mod Reading
 pub mod Seen
 pub mod Whole
 pub mod Text
-pub mod Names
+pub mod Naming
+pub mod TextLaws

@@ -11,7 +11,11 @@ mod names;
 mod program;
 mod statements;
 mod text;
+pub mod text_laws;
 mod tokens;
 mod whole;
 
 pub use text::{ParseFault, parse};
+
+#[cfg(test)]
+mod tests;

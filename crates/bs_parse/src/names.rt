@@ -5,7 +5,7 @@ ghost use Rattle.bs_lex.specs.Symbols.{symbol_as, symbols};
 ghost use Rattle.bs_tree.specs.Symbol.{name as a_name};
 ghost use Rattle.bs_parse.specs.Seen.{terminal};
 ghost use Rattle.bs_parse.specs.Text.{names_of, terminals_of, as_name};
-ghost use Rattle.bs_parse.specs.Names.{IsTied, IsWithin, Takes, place_among, texts};
+ghost use Rattle.bs_parse.specs.Naming.{IsTied, IsWithin, Takes, place_among, texts};
 
 use crate::cursor::Lexeme;
 use bs_lex::{Token, TokenKind};

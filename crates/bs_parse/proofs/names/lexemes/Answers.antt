@@ -3,7 +3,7 @@ use Rattle.std.proofs.lemmas.List.{at_drop_all}
 use Rattle.bs_lex.specs.Symbols.{symbols}
 use Rattle.bs_parse.specs.Seen.{terminal}
 use Rattle.bs_parse.specs.Text.{known_after}
-use Rattle.bs_parse.specs.Names.{texts}
+use Rattle.bs_parse.specs.Naming.{texts}
 use Rattle.bs_parse.proofs.Numbering.{numbering}
 use Rattle.bs_parse.proofs.Taking.{all_numbered, all_known}
 use Rattle.bs_parse.proofs.names.lexemes.Goals as goal

@@ -2,7 +2,7 @@ use Rattle.std.proofs.Common.{◌≡◌, ◌++◌, [], map, drop}
 use Rattle.bs_lex.specs.Symbols.{symbols}
 use Rattle.bs_parse.specs.Seen.{terminal}
 use Rattle.bs_parse.specs.Text.{known_after, names_of}
-use Rattle.bs_parse.specs.Names.{IsTied, texts}
+use Rattle.bs_parse.specs.Naming.{IsTied, texts}
 use Rattle.bs_parse.proofs.Numbering.{numbering}
 use Rattle.bs_parse.proofs.names.lexemes.Given as goal
 
