@@ -9,6 +9,9 @@ pub mod Enter
 pub mod Onward
 pub mod Exact
 pub mod Ends
+pub mod Numbering
+pub mod Taking
+pub mod Told
 pub mod Refused
 pub mod OneFault
 pub mod Measured
@@ -16,3 +19,4 @@ pub mod NamesIn
 pub mod Openings
 pub mod Places
 pub mod Counted
+pub mod OneText

@@ -3,3 +3,5 @@ pub mod Seen
 pub mod Whole
 pub mod Text
 pub mod Names
+pub mod Naming
+pub mod TextLaws
