@@ -5,8 +5,10 @@
 
 mod acts;
 mod expressions;
+mod laws;
 mod printer;
 mod statements;
 mod tokens;
 
+pub use laws::printed_is_read;
 pub use printer::print;
