@@ -1,5 +1,5 @@
 -- What an accepted program keeps beside its tree.
-use Rattle.std.specs.Prelude.{◌≡◌, ◌<◌, ℕ, List, Option, Some, slice_get}
+use Rattle.std.specs.Prelude.{◌≡◌, ℕ, List, Option, Some, slice_get}
 use Rattle.bs_tree.specs.declared.tree.Program.{Program}
 use Rattle.bs_check.specs.declared.kind.Kind.{Kind}
 use Rattle.bs_check.specs.Kinds.{kind_of}

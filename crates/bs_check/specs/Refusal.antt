@@ -1,5 +1,5 @@
 -- What the checker refuses: the least statement, and at it the least rule (docs/program-text.md).
-use Rattle.std.specs.Prelude.{◌≡◌, ◌≤◌, ◌<◌, ℕ, List, length, Option, Some, None, All}
+use Rattle.std.specs.Prelude.{◌≡◌, ◌≤◌, ◌<◌, ℕ, length, Option, Some, None, All}
 use Rattle.bs_tree.specs.Count.{statements_in}
 use Rattle.bs_tree.specs.declared.tree.Program.{Program}
 use Rattle.bs_check.specs.declared.fault.Rule.{Rule}

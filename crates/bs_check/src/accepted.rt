@@ -1,6 +1,7 @@
 // A program that was accepted.
-ghost use Rattle.std.specs.Prelude.{◌≡◌, ◌≤◌};
+ghost use Rattle.std.specs.Prelude.{◌≡◌, ◌≤◌, IsSome, Some, slice_get};
 ghost use Rattle.bs_check.specs.Accepted.{HasKinds};
+ghost use Rattle.bs_check.specs.Kinds.{IsPlaced, kind_of};
 ghost use Rattle.bs_semantics.specs.Layout.{all_cells};
 
 use crate::kind::Kind;
@@ -17,7 +18,8 @@ pub struct Accepted {
 }
 
 impl Accepted {
-    ghost use Rattle.std.specs.Prelude.{◌≡◌};
+    ghost use Rattle.std.specs.Prelude.{◌≡◌, IsSome, Some};
+    ghost use Rattle.bs_check.specs.Kinds.{IsPlaced, kind_of};
     ghost use Rattle.bs_semantics.specs.Layout.{all_cells};
 
     /// The program. It takes no memory.
@@ -27,10 +29,28 @@ impl Accepted {
         &self.program
     }
 
+    /// What a declared name is declared as. It takes no memory.
+    pub fn kind(&self, name: NameId) -> Kind
+        requires { IsSome (kind_of self.now.program name) }
+        ensures value { kind_of self.now.program name ≡ Some result }
+        ensures placed { IsPlaced self.now.program name result }
+    {
+        match kind_at(self.kinds.as_slice(), name.0 as usize) {
+            Some(Some(kind)) => kind,
+            _ => unreachable!(),
+        }
+    }
+
     /// How many cells all variables have together. It takes no memory.
     pub fn cells(&self) -> u32
         ensures { result ≡ all_cells self.now.program.vars }
     {
         self.cells
     }
+}
+
+fn kind_at(kinds: &[Option<Kind>], at: usize) -> Option<Option<Kind>>
+    ensures { result ≡ slice_get kinds.now at }
+{
+    kinds.get(at).copied()
 }
