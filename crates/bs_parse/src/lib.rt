@@ -8,5 +8,8 @@ mod cursor;
 mod expressions;
 mod program;
 mod statements;
+mod text;
 mod tokens;
 mod whole;
+
+pub use text::{ParseFault, parse};

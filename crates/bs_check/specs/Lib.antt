@@ -1,0 +1,4 @@
+pub mod Kinds
+pub mod Known
+pub mod Refusal
+pub mod Accepted

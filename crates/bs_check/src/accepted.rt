@@ -1,0 +1,56 @@
+// A program that was accepted.
+ghost use Rattle.std.specs.Prelude.{◌≡◌, ◌≤◌, IsSome, Some, slice_get};
+ghost use Rattle.bs_check.specs.Accepted.{HasKinds};
+ghost use Rattle.bs_check.specs.Kinds.{IsPlaced, kind_of};
+ghost use Rattle.bs_semantics.specs.Layout.{all_cells};
+
+use crate::kind::Kind;
+use bs_tree::{NameId, Program};
+
+/// A program that keeps the rules of the language, with what its names are declared as.
+#[derive(Debug, Drop)]
+pub struct Accepted {
+    program: Program,
+    kinds: Vec<Option<Kind>>,
+    cells: u32,
+    ghost has_kinds: { HasKinds program kinds.items },
+    ghost has_cells: { cells ≡ all_cells program.vars },
+}
+
+impl Accepted {
+    ghost use Rattle.std.specs.Prelude.{◌≡◌, IsSome, Some};
+    ghost use Rattle.bs_check.specs.Kinds.{IsPlaced, kind_of};
+    ghost use Rattle.bs_semantics.specs.Layout.{all_cells};
+
+    /// The program. It takes no memory.
+    pub fn program(&self) -> &Program
+        ensures { result.now ≡ self.now.program }
+    {
+        &self.program
+    }
+
+    /// What a declared name is declared as. It takes no memory.
+    pub fn kind(&self, name: NameId) -> Kind
+        requires { IsSome (kind_of self.now.program name) }
+        ensures value { kind_of self.now.program name ≡ Some result }
+        ensures placed { IsPlaced self.now.program name result }
+    {
+        match kind_at(self.kinds.as_slice(), name.0 as usize) {
+            Some(Some(kind)) => kind,
+            _ => unreachable!(),
+        }
+    }
+
+    /// How many cells all variables have together. It takes no memory.
+    pub fn cells(&self) -> u32
+        ensures { result ≡ all_cells self.now.program.vars }
+    {
+        self.cells
+    }
+}
+
+fn kind_at(kinds: &[Option<Kind>], at: usize) -> Option<Option<Kind>>
+    ensures { result ≡ slice_get kinds.now at }
+{
+    kinds.get(at).copied()
+}

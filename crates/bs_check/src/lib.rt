@@ -1,0 +1,14 @@
+//! The checker: whether a program keeps the rules of the language, and what its names are declared as.
+//!
+//! `docs/program-text.md` says what the rules are.
+#![tactic(auto)]
+
+mod accepted;
+mod checker;
+mod fault;
+mod kind;
+
+pub use accepted::Accepted;
+pub use checker::check;
+pub use fault::{CheckFault, Rule};
+pub use kind::Kind;
