@@ -3,10 +3,9 @@ ghost use Rattle.std.specs.Prelude.{◌≡◌, ℕ, ◌+◌, ◌^◌, ◌<◌, l
 ghost use Rattle.bs_floor.specs.Serving.{ServesNext, MayServe};
 ghost use Rattle.bs_floor.specs.History.{with_item};
 
-use crate::lists::push_or_return;
 use crate::station::{Bound, Station};
 use bs_tree::List;
-use std::alloc::{AllocError, Global};
+use std::alloc::AllocError;
 
 /// A station with its history: the items posted to it, in order, of which the first `served` are
 /// served.
@@ -34,11 +33,11 @@ impl<S: Station> Cell<S> {
 
     // Puts an item behind the others, and answers how many there are then. Where memory is wanting it
     // hands the item back.
-    pub(crate) fn post_last(&mut self, alloc: Global, item: S::Item) -> Result<u64, S::Item>
+    pub(crate) fn post_last(&mut self, item: S::Item) -> Result<u64, S::Item>
         ensures ok { IfOk result (λ n. (self.new ≡ with_item S.Station self.old item) × (n ≡ length self.old.posted + 1) × (n < 2 ^ 64)) }
         ensures err { IfErr result (λ returned. (returned ≡ item) × (self.new ≡ self.old)) }
     {
-        push_or_return(&mut self.posted, alloc, item)?;
+        self.posted.push_or_return(item)?;
         Ok(self.posted.as_slice().len() as u64)
     }
 }

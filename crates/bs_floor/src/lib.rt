@@ -25,6 +25,8 @@ mod countdown;
 mod floor;
 mod gate;
 mod lists;
+#[cfg(test)]
+mod race;
 mod rule;
 mod seat;
 mod station;

@@ -136,7 +136,7 @@ impl<S: Station> TurnTable<S> {
         ensures err { IfErr result (λ returned. (returned ≡ item) × (seat.new.me ≡ seat.old.me)) }
     {
         let cell = seat.slot_mut(&self.table.shared, at);
-        cell.post_last(self.alloc, item)
+        cell.post_last(item)
     }
 
     // Posts an item at the place that was read at the station that the seat holds. All memory is taken
