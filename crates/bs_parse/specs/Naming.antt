@@ -23,6 +23,7 @@ place_among names name = if is_among name names then Some (place_of names name) 
 abbrev pub IsTied : Names → Type 0
 IsTied names = (name : List ℕ) → get_by (λ key. slice_cmp nat_cmp name key.now) names.places ≡ place_among (texts names.known) name
 
+-- the value, if there is one, as a list
 abbrev pub optional : {A : Type 0} → Option A → List A
 optional None = []
 optional (Some a) = a ∷ []
