@@ -12,3 +12,6 @@ mod tokens;
 
 pub use laws::printed_is_read;
 pub use printer::print;
+
+#[cfg(test)]
+mod tests;
