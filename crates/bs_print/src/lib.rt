@@ -10,7 +10,7 @@ mod printer;
 mod statements;
 mod tokens;
 
-pub use laws::printed_is_read;
+pub use laws::{one_canonical_text, printed_is_read};
 pub use printer::print;
 
 #[cfg(test)]

@@ -36,40 +36,61 @@ fn prints(alloc: Global, x: Expr, want: &[u8]) -> Result<bool, AllocError> {
     Ok(text.as_slice() == whole.as_slice())
 }
 
-#[test]
-fn parentheses_stand_where_a_tree_needs_them(rt: HostRuntime) -> Result<(), Fail> {
-    let alloc = rt.alloc();
+// (1 + 2) * 3 - (4 - 5)
+fn difference(alloc: Global) -> Result<Expr, AllocError> {
     let sum = two(alloc, Op2::Add, Expr::Number(1), Expr::Number(2))?;
     let product = two(alloc, Op2::Mul, sum, Expr::Number(3))?;
     let rest = two(alloc, Op2::Sub, Expr::Number(4), Expr::Number(5))?;
-    let whole = two(alloc, Op2::Sub, product, rest)?;
-    assert!(rt; prints(alloc, whole, b"( 1 + 2 ) * 3 - ( 4 - 5 )")?);
+    two(alloc, Op2::Sub, product, rest)
+}
 
+// 1 - 2 - 3
+fn to_the_left(alloc: Global) -> Result<Expr, AllocError> {
     let left = two(alloc, Op2::Sub, Expr::Number(1), Expr::Number(2))?;
-    let to_the_left = two(alloc, Op2::Sub, left, Expr::Number(3))?;
-    assert!(rt; prints(alloc, to_the_left, b"1 - 2 - 3")?);
+    two(alloc, Op2::Sub, left, Expr::Number(3))
+}
 
+// 1 + (2 + 3)
+fn to_the_right(alloc: Global) -> Result<Expr, AllocError> {
     let right = two(alloc, Op2::Add, Expr::Number(2), Expr::Number(3))?;
-    let to_the_right = two(alloc, Op2::Add, Expr::Number(1), right)?;
-    assert!(rt; prints(alloc, to_the_right, b"1 + ( 2 + 3 )")?);
+    two(alloc, Op2::Add, Expr::Number(1), right)
+}
 
-    let minus = Expr::Neg(Boxed::new(alloc, Expr::Number(1))?);
-    let signs = Expr::Neg(Boxed::new(alloc, minus)?);
-    assert!(rt; prints(alloc, signs, b"- ( - 1 )")?);
+// -(-1)
+fn signs(alloc: Global) -> Result<Expr, AllocError> {
+    let inner = Expr::Neg(Boxed::new(alloc, Expr::Number(1))?);
+    Ok(Expr::Neg(Boxed::new(alloc, inner)?))
+}
 
+// (this == 0) == 1
+fn comparisons(alloc: Global) -> Result<Expr, AllocError> {
     let first = two(alloc, Op2::Eq, Expr::This, Expr::Number(0))?;
-    let comparisons = two(alloc, Op2::Eq, first, Expr::Number(1))?;
-    assert!(rt; prints(alloc, comparisons, b"( this == 0 ) == 1")?);
+    two(alloc, Op2::Eq, first, Expr::Number(1))
+}
 
+// !x[chares] && x
+fn both(alloc: Global) -> Result<Expr, AllocError> {
     let cell = Expr::At(NameId(0), Boxed::new(alloc, Expr::Chares)?);
     let not = Expr::Not(Boxed::new(alloc, cell)?);
-    let both = two(alloc, Op2::And, not, Expr::Var(NameId(0)))?;
-    assert!(rt; prints(alloc, both, b"! x [ chares ] && x")?);
+    two(alloc, Op2::And, not, Expr::Var(NameId(0)))
+}
+
+#[test]
+fn parentheses_stand_where_a_tree_needs_them(rt: HostRuntime) -> Result<(), Fail> {
+    let alloc = rt.alloc();
+    assert!(rt; prints(alloc, difference(alloc)?, b"( 1 + 2 ) * 3 - ( 4 - 5 )")?);
+    assert!(rt; prints(alloc, to_the_left(alloc)?, b"1 - 2 - 3")?);
+    assert!(rt; prints(alloc, to_the_right(alloc)?, b"1 + ( 2 + 3 )")?);
+    assert!(rt; prints(alloc, signs(alloc)?, b"- ( - 1 )")?);
+    assert!(rt; prints(alloc, comparisons(alloc)?, b"( this == 0 ) == 1")?);
+    assert!(rt; prints(alloc, both(alloc)?, b"! x [ chares ] && x")?);
     Ok(())
 }
 
 const X: NameId = NameId(0);
+
 const GO: NameId = NameId(1);
+
 const CELLS: NameId = NameId(2);
 
 fn names(alloc: Global) -> Result<List<Name>, AllocError> {
@@ -80,7 +101,13 @@ fn names(alloc: Global) -> Result<List<Name>, AllocError> {
 }
 
 fn vars(alloc: Global) -> Result<List<VarDecl>, AllocError> {
-    let mut vars = list_of(alloc, VarDecl { name: X, cells: None })?;
+    let mut vars = list_of(
+        alloc,
+        VarDecl {
+            name: X,
+            cells: None,
+        },
+    )?;
     vars.push(VarDecl {
         name: CELLS,
         cells: Some(3),
@@ -135,11 +162,18 @@ fn a_whole_program_is_printed(rt: HostRuntime) -> Result<(), Fail> {
         chares: 2,
         names: names(alloc)?,
         vars: vars(alloc)?,
-        entries: list_of(alloc, EntryDecl { name: GO, params: 1 })?,
+        entries: list_of(
+            alloc,
+            EntryDecl {
+                name: GO,
+                params: 1,
+            },
+        )?,
         body: statements(alloc)?,
     };
     let text = print(alloc, &program)?;
-    let want: &[u8] = b"chares 2 ; var x ; var cells [ 3 ] ; entry go ( 1 ) ; body { serial { x = 1 ; cells [ 0 ] = x ; send go [ 7 ] ( 1 , x ) to 1 - this bytes 8 ; work 3 ; if ( x ) { } else { emit x ; } repeat 2 { } } when go [ 7 ] ( x ) , go [ 8 ] ( ) { } overlap { } for ( x = 0 ; x < 3 ; x = x + 1 ) { } while ( x ) { } if ( x ) { } else { { } } }\n";
+    let want: &[u8] =
+        b"chares 2 ; var x ; var cells [ 3 ] ; entry go ( 1 ) ; body { serial { x = 1 ; cells [ 0 ] = x ; send go [ 7 ] ( 1 , x ) to 1 - this bytes 8 ; work 3 ; if ( x ) { } else { emit x ; } repeat 2 { } } when go [ 7 ] ( x ) , go [ 8 ] ( ) { } overlap { } for ( x = 0 ; x < 3 ; x = x + 1 ) { } while ( x ) { } if ( x ) { } else { { } } }\n";
     assert_eq!(rt; text.as_slice(), want);
     Ok(())
 }
