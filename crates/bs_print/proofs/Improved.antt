@@ -1,8 +1,7 @@
 -- What the canonical items of something that is spelled are to the items that spell it: they spell the same, and are leaner.
-use Rattle.std.proofs.Common.{◌≡◌, ℕ, zero, suc, ℤ, pos, List, [], ◌∷◌, ◌++◌, Option, Some, None, true, false, refl, sym, ap, subst, ◌∙◌, ◌⊎◌, inl, inr}
+use Rattle.std.proofs.Common.{◌≡◌, ℕ, pos, List, [], ◌∷◌, ◌++◌, Option, Some, None, true, false, refl, sym, ap, subst, ◌∙◌, inl, inr}
 use Rattle.bs_tree.specs.declared.symbols.Word.{Word}
 use Rattle.bs_tree.specs.declared.symbols.Mark.{Mark}
-use Rattle.bs_tree.specs.declared.tree.NameId.{NameId}
 use Rattle.bs_tree.specs.Rule as g
 use Rattle.bs_tree.specs.Rule.{Terminal, Role, outside, Item, Choice, a_name, a_number, the_word, the_mark, accepted, Inside, Rule, one, both, many, maybe, either, within, closing, Spells, SpellsMany, SpellsMaybe}
 use Rattle.bs_tree.specs.Grammar.{as_it_is, as_name, name, natural, count, word, mark, content, Inner}

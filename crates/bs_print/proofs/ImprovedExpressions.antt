@@ -1,5 +1,5 @@
 -- Expressions that are spelled are improved by their canonical items.
-use Rattle.std.proofs.Common.{◌≡◌, ℕ, suc, pos, ◌≤◌, List, [], ◌∷◌, ◌++◌, map, Option, Some, None, refl, sym, ap, subst, ◌∙◌, arith, append_assoc, ◌⊎◌, inl, inr}
+use Rattle.std.proofs.Common.{◌≡◌, ℕ, suc, pos, ◌≤◌, List, [], ◌∷◌, ◌++◌, map, Option, Some, None, refl, sym, ap, subst, ◌∙◌, arith, append_assoc, inl, inr}
 use Rattle.bs_tree.specs.declared.symbols.Word.{Word}
 use Rattle.bs_tree.specs.declared.symbols.Word.TheVariants as w
 use Rattle.bs_tree.specs.declared.symbols.Mark.{Mark}
@@ -10,11 +10,11 @@ use Rattle.bs_tree.specs.declared.tree.Expr.TheVariants as e
 use Rattle.bs_tree.specs.declared.tree.Op2.{Op2}
 use Rattle.bs_tree.specs.Rule as g
 use Rattle.bs_tree.specs.Rule.{Terminal, operand, operator, Item, Choice, a_name, a_number, the_word, the_mark, an_operator, accepted, Inside, whole_number, statements, acts, expression, expressions, names, loop_head, Rule, Spells, SpellsMany, SpellsMaybe}
-use Rattle.bs_tree.specs.Grammar.{as_it_is, as_name, literal, cell, variable, index, group, primary, unary, product, sum, comparison, conjunction, disjunction, chain, tail, compared, content, Inner, multiplies, adds, compares, joins, chooses}
+use Rattle.bs_tree.specs.Grammar.{as_name, literal, variable, index, group, primary, unary, product, sum, comparison, conjunction, disjunction, chain, tail, compared, content, Inner, multiplies, adds, compares, joins, chooses}
 use Rattle.bs_tree.specs.Grammar.{grouped as left_grouped}
 use Rattle.bs_parse.proofs.Basics.{append_none, some_if, same_words}
 use Rattle.bs_parse.proofs.Sound.{mark_token}
-use Rattle.bs_print.specs.Expressions.{bracketed, grouped, indexed, expression_items, printed, operand_at}
+use Rattle.bs_print.specs.Expressions.{grouped, indexed, expression_items}
 use Rattle.bs_print.specs.Statements.{with_commas, name_items, count_items, acts_items, statements_items, head_items}
 use Rattle.bs_print.proofs.Improved.{Improved, Improves}
 use Rattle.bs_print.proofs.Spelling.{Spelled}

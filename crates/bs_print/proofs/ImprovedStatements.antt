@@ -23,8 +23,8 @@ use Rattle.bs_tree.specs.Rule as g
 use Rattle.bs_tree.specs.Rule.{Role, opening, outside, Item, Inside, whole_number, statements, acts, expression, expressions, names, loop_head, Rule, one, both, many, maybe, either, within, Spells}
 use Rattle.bs_tree.specs.Grammar as r
 use Rattle.bs_tree.specs.Grammar.{as_it_is, ahead, none_or, content, Inner, disjunction, Parts, program}
-use Rattle.bs_print.specs.Expressions.{bracketed, grouped, indexed, expression_items}
-use Rattle.bs_print.specs.Statements.{joined, after_commas, with_commas, braced, name_items, count_items, semicolon_items, ended_items, arguments_items, message_items, bytes_items, target_items, else_items, act_step, act_items, acts_items, names_items, wait_items, waits_items, setting_items, head_items, statement_step, statement_items, statements_items, length_items, variable_items, entry_items, variables_items, entries_items, chares_items, front_items, canonical_items}
+use Rattle.bs_print.specs.Expressions.{grouped, indexed, expression_items}
+use Rattle.bs_print.specs.Statements.{after_commas, with_commas, braced, name_items, count_items, semicolon_items, ended_items, arguments_items, message_items, bytes_items, target_items, act_step, act_items, acts_items, names_items, wait_items, waits_items, setting_items, head_items, statement_step, statement_items, statements_items, length_items, variable_items, entry_items, variables_items, entries_items, chares_items, front_items, canonical_items}
 use Rattle.bs_print.proofs.Leaner.{Leaner, behind}
 use Rattle.bs_print.proofs.Spelling.{both_spelled}
 use Rattle.bs_print.proofs.Improved.{Improved, Improves, improved_as, word_improves, mark_improves, name_improves, count_improves, both_improves, many_improves, maybe_improves, either_improves, within_improves}

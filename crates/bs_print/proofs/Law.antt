@@ -1,33 +1,29 @@
 -- The canonical text of a program that some text spells spells that program.
 use Rattle.std.proofs.Common.{◌≡◌, ℕ, Bool, true, false, List, [], ◌∷◌, map, Option, Some, None, refl, sym, ap, subst, ◌∙◌, arith}
-use Rattle.std.specs.Prelude.{Result, Ok, Err, IfSome, if◌then◌else◌, All}
-use Rattle.std.specs.List.{filter_map, cons_option}
+use Rattle.std.specs.Prelude.{Ok, Err, IfSome, if◌then◌else◌, All}
+use Rattle.std.specs.List.{cons_option}
 use Rattle.std.specs.Str.{is_utf8}
 use Rattle.std.specs.Str.Lossy.{utf8_valid_len}
 use Rattle.std.proofs.lemmas.List.Elements.{All-head, All-tail}
-use Rattle.bs_tree.specs.declared.tree.Name.{Name}
 use Rattle.bs_tree.specs.declared.tree.Program.{Program}
 use Rattle.bs_tree.specs.Symbol.{Symbol}
-use Rattle.bs_tree.specs.Rule as g
-use Rattle.bs_tree.specs.Rule.{Terminal, Item, terminals}
+use Rattle.bs_tree.specs.Rule.{Terminal, terminals}
 use Rattle.bs_tree.specs.Grammar.{Parts}
 use Rattle.bs_tree.specs.Limits.{most_allowed, none_yet}
 use Rattle.bs_tree.specs.Fault.{IsProgram}
 use Rattle.bs_lex.specs.declared.token.Token.{Token}
-use Rattle.bs_lex.specs.declared.token.LexFault.{LexFault}
 use Rattle.bs_lex.specs.declared.token.LexFault.TheVariants as fault
 use Rattle.bs_lex.specs.Lexed.{lexed, tokens_from}
 use Rattle.bs_lex.specs.Symbols.{symbol_as, text_at, symbols, symbol_text, IsSymbol, IsSpelled}
-use Rattle.bs_lex.specs.Written.{written}
 use Rattle.bs_lex.proofs.Spelled.{tokens_spelled}
 use Rattle.bs_lex.proofs.WrittenLemmas.{written_is_read}
-use Rattle.bs_parse.specs.Text.{names_of, known_after, numbered, terminals_of, as_name, SymbolsSpell, Spells}
+use Rattle.bs_parse.specs.Text.{names_of, known_after, numbered, terminals_of, as_name, SymbolsSpell}
 use Rattle.bs_print.specs.Statements.{canonical_items}
 use Rattle.bs_print.specs.Canonical.{symbol_in, canonical, text_of}
 use Rattle.bs_print.specs.Law.{PrintedIsRead}
 use Rattle.bs_print.proofs.Leaner.{leaves, same_leaves, Lower, fits}
 use Rattle.bs_print.proofs.ImprovedStatements.{program_improved}
-use Rattle.bs_print.proofs.Names.{Each, each_map, each_both, each_all, map_same, each_leaf, each_whole, names_of_leaves, IsKnown, all_known, found_again}
+use Rattle.bs_print.proofs.Names.{Each, each_map, each_both, each_all, each_leaf, each_whole, names_of_leaves, IsKnown, all_known, found_again}
 
 -- ---- the symbols of a text
 
@@ -53,7 +49,7 @@ text_symbols text tokens h = symbols_of_tokens text tokens (tokens_spelled text 
 
 -- ---- the canonical symbols of a program that some symbols spell
 
-abbrev parts_of : Program → Parts
+abbrev pub parts_of : Program → Parts
 parts_of p = (p.chares, p.vars, p.entries, p.body)
 
 canonical_program : (ts : List Terminal) (parts : Parts) → IsProgram ts parts → IsProgram (terminals (canonical_items parts)) parts

@@ -1,13 +1,13 @@
 -- Items that come of other ones by leaving parentheses of expressions away: they say the same names and numbers, and
 -- pass a limit only where the other ones do.
-use Rattle.std.proofs.Common.{◌≡◌, ℕ, zero, suc, pred, ◌<◌, ◌≤◌, List, [], ◌∷◌, ◌++◌, Option, Some, None, Bool, true, false, ◌&&◌, if◌then◌else◌, nat_le, refl, sym, ap, ◌∙◌, arith, append_assoc}
+use Rattle.std.proofs.Common.{◌≡◌, ℕ, zero, suc, pred, ◌<◌, ◌≤◌, List, [], ◌∷◌, ◌++◌, None, Bool, true, false, if◌then◌else◌, nat_le, refl, sym, ap, ◌∙◌, arith}
 use Rattle.std.specs.List.{flat_map}
 use Rattle.std.proofs.lemmas.Bool.{leb-false, lt-leb}
 use Rattle.std.proofs.lemmas.List.Concat.{flat_map-append}
 use Rattle.bs_tree.specs.declared.symbols.Mark.{Mark}
 use Rattle.bs_tree.specs.declared.symbols.Mark.TheVariants as m
 use Rattle.bs_tree.specs.Rule.{Terminal, name, number, mark, Role, opening, outside, operand, operator, closing, Item, terminals}
-use Rattle.bs_tree.specs.Limits.{Counts, opens, closes, operators_after, statements_after, after, after_all, Reason, refused, refused_role, Within}
+use Rattle.bs_tree.specs.Limits.{Counts, opens, closes, operators_after, statements_after, after, after_all, refused, refused_role, Within}
 use Rattle.bs_parse.proofs.Basics.{Test, holds, fails, test, append_none, terminals_append, after_append, within_join, within_left, within_right}
 use Rattle.bs_parse.proofs.Fine.{Level, level_within}
 use Rattle.bs_print.specs.Expressions.{bracketed, grouped}

@@ -1,7 +1,6 @@
 -- Printed expressions are spelled at each level.
-use Rattle.std.proofs.Common.{◌≡◌, ℕ, zero, suc, ℤ, pos, ◌+◌, ◌<◌, ◌≤◌, nat_le, Bool, true, false, List, [], ◌∷◌, ◌++◌, Option, Some, None, refl, sym, ap, subst, ◌∙◌, arith, append_assoc, ◌⊎◌, inl, inr}
+use Rattle.std.proofs.Common.{◌≡◌, ℕ, zero, suc, ℤ, pos, ◌+◌, ◌<◌, ◌≤◌, nat_le, true, false, List, [], ◌∷◌, ◌++◌, Option, Some, None, refl, sym, ap, subst, ◌∙◌, arith, append_assoc, ◌⊎◌, inl, inr}
 use Rattle.std.proofs.lemmas.Bool.{le-leb, lt-leb, cases_lt}
-use Rattle.bs_tree.specs.declared.symbols.Word.{Word}
 use Rattle.bs_tree.specs.declared.symbols.Word.TheVariants as w
 use Rattle.bs_tree.specs.declared.symbols.Mark.{Mark}
 use Rattle.bs_tree.specs.declared.symbols.Mark.TheVariants as m
@@ -16,14 +15,14 @@ use Rattle.bs_tree.specs.declared.tree.Op2.{Op2}
 use Rattle.bs_tree.specs.declared.tree.Op2.TheVariants as o
 use Rattle.bs_tree.specs.Rule as g
 use Rattle.bs_tree.specs.Rule.{operand, operator, Item, a_name, a_number, the_word, an_operator, accepted, expression, Rule, one, both, many, maybe, Spells}
-use Rattle.bs_tree.specs.Grammar.{as_it_is, as_name, literal, cell, variable, mark, index, group, primary, unary, product, sum, comparison, conjunction, disjunction, chain, tail, compared, Inner, multiplies, adds, compares, joins, chooses}
+use Rattle.bs_tree.specs.Grammar.{as_it_is, as_name, literal, variable, mark, index, group, primary, unary, product, sum, comparison, conjunction, disjunction, chain, tail, compared, Inner, multiplies, adds, compares, joins, chooses}
 use Rattle.bs_tree.specs.Grammar.{grouped as left_grouped}
 use Rattle.bs_parse.proofs.Basics.{append_none}
 use Rattle.bs_parse.proofs.Viable.{deeper_spells}
-use Rattle.bs_print.specs.Expressions.{Printed, bracketed, grouped, indexed, operand_at, level_of, left_level, mark_of, two_items, printed_step, printed}
+use Rattle.bs_print.specs.Expressions.{Printed, grouped, indexed, operand_at, level_of, left_level, mark_of, two_items, printed_step, printed}
 use Rattle.bs_tree.specs.Limits.{opens, closes}
 use Rattle.bs_print.proofs.Leaner.{Leaner, token, behind, bracket, dropped}
-use Rattle.bs_print.proofs.Spelling.{Spelled, spelled_as, one_spelled, word_spelled, mark_spelled, both_spelled, none_spelled, nothing_spelled, some_spelled, left_spelled, right_spelled, within_spelled, many_then, deeper_many}
+use Rattle.bs_print.proofs.Spelling.{Spelled, spelled_as, one_spelled, mark_spelled, both_spelled, none_spelled, nothing_spelled, some_spelled, left_spelled, right_spelled, within_spelled, many_then, deeper_many}
 
 -- the rule of the expressions of a level and of tighter ones
 abbrev pub rule_at : ℕ → Rule Expr

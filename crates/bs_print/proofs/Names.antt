@@ -1,7 +1,6 @@
 -- Numbering the names of a text and looking them up again.
-use Rattle.std.proofs.Common.{◌≡◌, ℕ, zero, suc, ℤ, Bool, true, false, ◌||◌, List, [], ◌∷◌, ◌++◌, map, Option, Some, None, refl, sym, ap, subst, ◌∙◌}
+use Rattle.std.proofs.Common.{◌≡◌, ℕ, suc, Bool, true, false, ◌||◌, List, [], ◌∷◌, ◌++◌, map, refl, sym, ap, ◌∙◌}
 use Rattle.std.specs.Prelude.{slice_get, if◌then◌else◌, All}
-use Rattle.std.specs.List.{flat_map}
 use Rattle.std.specs.Str.{bytes_eq}
 use Rattle.std.proofs.lemmas.Slice.Eq.{bytes_eq-Decides}
 use Rattle.std.proofs.lemmas.List.Elements.{All-nil, All-cons}
@@ -12,9 +11,9 @@ use Rattle.bs_tree.specs.Symbol as s
 use Rattle.bs_tree.specs.Symbol.{Symbol}
 use Rattle.bs_tree.specs.Rule as g
 use Rattle.bs_tree.specs.Rule.{Terminal}
-use Rattle.bs_parse.specs.Text.{is_among, known_with, known_after, names_of, place_of, numbered, terminals_of, as_name}
+use Rattle.bs_parse.specs.Text.{is_among, known_with, known_after, names_of, place_of, numbered, as_name}
 use Rattle.bs_print.specs.Canonical.{bytes_of, symbol_in}
-use Rattle.bs_print.proofs.Leaner.{leaf, leaves}
+use Rattle.bs_print.proofs.Leaner.{leaves}
 
 -- ---- what holds of each item of a list
 

@@ -1,5 +1,5 @@
 -- The text of items, in pieces.
-use Rattle.std.proofs.Common.{◌≡◌, ℕ, List, [], ◌∷◌, ◌++◌, refl, sym, ap, ◌∙◌, append_assoc, map}
+use Rattle.std.proofs.Common.{◌≡◌, List, [], ◌∷◌, ◌++◌, refl, sym, ap, ◌∙◌, append_assoc, map}
 use Rattle.std.proofs.lemmas.List.Concat.{flat_map-append}
 use Rattle.bs_tree.specs.Rule.{Item, terminals}
 use Rattle.bs_tree.specs.Symbol.{Symbol}

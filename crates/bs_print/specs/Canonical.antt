@@ -1,7 +1,6 @@
 -- The one canonical text of a program (docs/program-text.md).
-use Rattle.std.specs.Prelude.{◌≡◌, ℕ, List, [], ◌∷◌, ◌++◌, map, Option, Some, None, Result, OnOk, slice_get}
+use Rattle.std.specs.Prelude.{ℕ, List, [], ◌∷◌, ◌++◌, map, Option, Some, None, slice_get}
 use Rattle.std.specs.List.{flat_map}
-use Rattle.std.specs.declared.alloc.AllocError.{AllocError}
 use Rattle.bs_tree.specs.Symbol as s
 use Rattle.bs_tree.specs.Symbol.{Symbol}
 use Rattle.bs_tree.specs.Rule as g

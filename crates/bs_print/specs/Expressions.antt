@@ -19,9 +19,11 @@ pub record Printed : Type 0 where
 abbrev pub bracketed : Role → Mark → Mark → List Item → List Item
 bracketed role left right inner = (role, mark left) ∷ (inner ++ (closing role, mark right) ∷ [])
 
+-- in parentheses
 abbrev pub grouped : Role → List Item → List Item
 grouped role inner = bracketed role m.ParenLeft m.ParenRight inner
 
+-- in square brackets
 abbrev pub indexed : Role → List Item → List Item
 indexed role inner = bracketed role m.BracketLeft m.BracketRight inner
 
@@ -29,7 +31,7 @@ indexed role inner = bracketed role m.BracketLeft m.BracketRight inner
 abbrev pub operand_at : ℕ → Printed → List Item
 operand_at least x = if nat_le least x.level then x.items else grouped operand x.items
 
--- the levels of the operators of two operands, from the loosest; the signs have level 5
+-- the level of an operator of two operands, from the loosest; the signs have level 5
 abbrev pub level_of : Op2 → ℕ
 level_of o.Or = 0
 level_of o.And = 1
@@ -61,6 +63,7 @@ left_level o.Mul = 4
 left_level o.Div = 4
 left_level o.Rem = 4
 
+-- how an operator is written
 abbrev pub mark_of : Op2 → Mark
 mark_of o.Or = m.Or
 mark_of o.And = m.And
@@ -91,6 +94,7 @@ printed_step (Expr-F.Neg x) = record { level = 5; items = (operand, mark m.Minus
 printed_step (Expr-F.Not x) = record { level = 5; items = (operand, mark m.Not) ∷ operand_at 6 x }
 printed_step (Expr-F.Two op left right) = record { level = level_of op; items = two_items op left right }
 
+-- an expression as it is printed
 unfoldable pub printed : Expr → Printed
 printed = fold-Expr Printed printed_step
 

@@ -33,15 +33,19 @@ abbrev pub with_commas : List (List Item) → List Item
 with_commas [] = []
 with_commas (part ∷ parts) = part ++ after_commas parts
 
+-- in braces
 abbrev pub braced : Role → List Item → List Item
 braced role inner = bracketed role m.BraceLeft m.BraceRight inner
 
+-- a name outside of expressions
 abbrev pub name_items : NameId → List Item
 name_items x = (outside, name x.0) ∷ []
 
+-- a number outside of expressions
 abbrev pub count_items : ℕ → List Item
 count_items n = (outside, number (pos n)) ∷ []
 
+-- a semicolon
 abbrev pub semicolon_items : List Item
 semicolon_items = (outside, mark m.Semicolon) ∷ []
 
@@ -51,6 +55,7 @@ ended_items x = expression_items x ++ semicolon_items
 
 -- ---- acts
 
+-- the arguments of a `send`, in parentheses
 unfoldable pub arguments_items : List Expr → List Item
 arguments_items values = grouped outside (with_commas (map expression_items values))
 
@@ -58,6 +63,7 @@ arguments_items values = grouped outside (with_commas (map expression_items valu
 unfoldable pub message_items : NameId → Expr → List Expr → List Item
 message_items entry reference values = (outside, name entry.0) ∷ (indexed outside (expression_items reference) ++ arguments_items values)
 
+-- the number of bytes of a `send`, where one is given
 abbrev pub bytes_items : Option Expr → List Item
 bytes_items None = []
 bytes_items (Some bytes) = (outside, word w.Bytes) ∷ expression_items bytes
@@ -81,14 +87,17 @@ act_step (Act-F.Emit x) = (outside, word w.Emit) ∷ ended_items x
 act_step (Act-F.If test body other) = (outside, word w.If) ∷ (grouped outside (expression_items test) ++ (braced outside (joined body) ++ else_items other))
 act_step (Act-F.Repeat times body) = (outside, word w.Repeat) ∷ (expression_items times ++ braced outside (joined body))
 
+-- one act
 unfoldable pub act_items : Act → List Item
 act_items = fold-Act (List Item) act_step
 
+-- acts, one behind the other
 unfoldable pub acts_items : List Act → List Item
 acts_items acts = joined (map act_items acts)
 
 -- ---- statements
 
+-- parameters, in parentheses
 unfoldable pub names_items : List NameId → List Item
 names_items names = grouped outside (with_commas (map name_items names))
 
@@ -96,6 +105,7 @@ names_items names = grouped outside (with_commas (map name_items names))
 unfoldable pub wait_items : Wait → List Item
 wait_items wait = (outside, name wait.entry.0) ∷ (indexed outside (expression_items wait.reference) ++ names_items wait.params)
 
+-- what a `when` waits for
 unfoldable pub waits_items : List Wait → List Item
 waits_items waits = with_commas (map wait_items waits)
 
@@ -117,30 +127,38 @@ statement_step (Stmt-F.While test body) = (opening, word w.While) ∷ (grouped o
 statement_step (Stmt-F.If test body other) = (opening, word w.If) ∷ (grouped outside (expression_items test) ++ (braced outside (joined body) ++ else_items other))
 statement_step (Stmt-F.Seq body) = braced opening (joined body)
 
+-- one statement
 unfoldable pub statement_items : Stmt → List Item
 statement_items = fold-Stmt (List Item) statement_step
 
+-- statements, one behind the other
 unfoldable pub statements_items : List Stmt → List Item
 statements_items body = joined (map statement_items body)
 
 -- ---- programs
 
+-- the number of cells of an array, in square brackets
 abbrev pub length_items : Option ℕ → List Item
 length_items None = []
 length_items (Some cells) = indexed outside (count_items cells)
 
+-- the declaration of a variable
 unfoldable pub variable_items : VarDecl → List Item
 variable_items var = (outside, word w.Var) ∷ (((outside, name var.name.0) ∷ length_items var.cells) ++ semicolon_items)
 
+-- the declaration of an entry
 unfoldable pub entry_items : EntryDecl → List Item
 entry_items entry = (outside, word w.Entry) ∷ (((outside, name entry.name.0) ∷ grouped outside (count_items entry.params)) ++ semicolon_items)
 
+-- the declarations of variables, one behind the other
 unfoldable pub variables_items : List VarDecl → List Item
 variables_items vars = joined (map variable_items vars)
 
+-- the declarations of entries, one behind the other
 unfoldable pub entries_items : List EntryDecl → List Item
 entries_items entries = joined (map entry_items entries)
 
+-- the number of chares
 unfoldable pub chares_items : ℕ → List Item
 chares_items n = (outside, word w.Chares) ∷ (outside, number (pos n)) ∷ semicolon_items
 

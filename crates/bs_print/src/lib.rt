@@ -10,5 +10,8 @@ mod printer;
 mod statements;
 mod tokens;
 
-pub use laws::printed_is_read;
+pub use laws::{one_canonical_text, printed_is_read};
 pub use printer::print;
+
+#[cfg(test)]
+mod tests;

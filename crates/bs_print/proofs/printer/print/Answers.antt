@@ -1,4 +1,4 @@
-use Rattle.std.proofs.Common.{rules, ◌≡◌, ◌++◌, sym, ◌∙◌}
+use Rattle.std.proofs.Common.{rules, sym, ◌∙◌}
 use Rattle.bs_tree.specs.Rule.{outside, mark}
 use Rattle.bs_tree.specs.declared.symbols.Mark.TheVariants as m
 use Rattle.bs_print.specs.Canonical.{text_of, canonical}
