@@ -1,0 +1,4 @@
+pub mod Keyed
+pub mod Mail
+pub mod Fault
+pub mod Filled
