@@ -1,1 +1,4 @@
 pub mod Placed
+pub mod Twice
+pub mod Fitting
+pub mod Nothing

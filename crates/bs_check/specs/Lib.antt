@@ -1,4 +1,9 @@
 pub mod Kinds
 pub mod Known
+pub mod Every
+pub mod Interference
+pub mod Declarations
+pub mod Rules
 pub mod Refusal
+pub mod Table
 pub mod Accepted

@@ -5,8 +5,11 @@
 
 mod accepted;
 mod checker;
+mod declarations;
 mod fault;
 mod kind;
+mod known;
+mod names;
 
 pub use accepted::Accepted;
 pub use checker::check;
