@@ -2,3 +2,5 @@ pub mod Placed
 pub mod Twice
 pub mod Fitting
 pub mod Nothing
+pub mod Rows
+pub mod Unrolled

@@ -6,4 +6,5 @@ pub mod Declarations
 pub mod Rules
 pub mod Refusal
 pub mod Table
+pub mod Touches
 pub mod Accepted

@@ -10,6 +10,8 @@ mod fault;
 mod kind;
 mod known;
 mod names;
+mod touches;
+mod uses;
 
 pub use accepted::Accepted;
 pub use checker::check;
