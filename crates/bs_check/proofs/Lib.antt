@@ -4,3 +4,5 @@ pub mod Fitting
 pub mod Nothing
 pub mod Rows
 pub mod Unrolled
+pub mod Clashes
+pub mod PartByPart

@@ -165,10 +165,10 @@ left_more start now next r w r' w' reads writes h one = record {
       rw noted (note_note start.part (r name) (w name) (r' name) (w' name) (seen now name) ∙ h.left name l);
 }
 
-drop_item : {X : Type 0} (xs : List X) (i : ℕ) (x d : X) → i < length xs → x ≡ get_or xs i d → drop i xs ≡ x ∷ drop (i + 1) xs
+pub drop_item : {X : Type 0} (xs : List X) (i : ℕ) (x d : X) → i < length xs → x ≡ get_or xs i d → drop i xs ≡ x ∷ drop (i + 1) xs
 drop_item xs i x d h e = drop_more xs i d h ∙ ap (λ y. y ∷ drop (i + 1) xs) (sym e)
 
-drop_none : {X : Type 0} (xs : List X) (i : ℕ) → length xs ≤ i → drop i xs ≡ []
+pub drop_none : {X : Type 0} (xs : List X) (i : ℕ) → length xs ≤ i → drop i xs ≡ []
 drop_none xs i h = at_drop_all (λ ys. ys) xs i h
 
 -- one item of a list was looked at

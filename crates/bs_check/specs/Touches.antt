@@ -1,6 +1,11 @@
 -- What is known of the variables of an `overlap` once some of its parts were looked at.
-use Rattle.std.specs.Prelude.{◌≡◌, ◌<◌, ℕ, ◌==◌, Bool, true, false, ◌||◌, if◌then◌else◌, length, Option, Some, None, All, slice_get}
+use Rattle.std.specs.Prelude.{◌≡◌, ◌<◌, ◌+◌, ℕ, ◌==◌, Bool, true, false, ◌||◌, if◌then◌else◌, List, [], ◌∷◌, length, Option, Some, None, All, slice_get}
 use Rattle.bs_tree.specs.declared.tree.NameId.{NameId}
+use Rattle.bs_tree.specs.declared.tree.Stmt.{Stmt}
+use Rattle.bs_tree.specs.declared.tree.VarDecl.{VarDecl}
+use Rattle.bs_tree.specs.Reads.{stmt_reads, stmt_writes}
+use Rattle.bs_check.specs.Interference.{Pair, or_else_rule}
+use Rattle.bs_check.specs.declared.fault.Rule.{Rule}
 use Rattle.bs_check.specs.declared.touches.Touch.{Touch}
 use Rattle.bs_check.specs.declared.touches.Touches.{Touches}
 
@@ -58,3 +63,27 @@ pub record Keeps (old new : Touches) : Type 0 where
 pub record Noted (old new : Touches) (reads writes : NameId → Bool) : Type 0 where
   pub keeps : Keeps old new
   pub noted : (name : NameId) → name.0 < size old → seen new name ≡ note old.part (reads name) (writes name) (seen old name)
+
+-- nothing but the part that is looked at may differ in the frame
+pub record Follows (old new : Touches) : Type 0 where
+  pub size : size new ≡ size old
+  pub overlap : new.overlap ≡ old.overlap
+  pub behind : (n : ℕ) → old.overlap < n → IsBehind old n → IsBehind new n
+
+-- once parts, the first of which has this number, were looked at
+abbrev pub after_parts : NameId → ℕ → List Stmt → Seen → Seen
+after_parts name k [] s = s
+after_parts name k (a ∷ parts) s = after_parts name (k + 1) parts (note k (stmt_reads name a) (stmt_writes name a) s)
+
+abbrev pub pair_with : ℕ → Option ℕ → Option Pair
+pair_with k None = None
+pair_with k (Some j) = Some (record { one = k; other = j })
+
+abbrev pub pair_of : Seen → Option Pair
+pair_of None = None
+pair_of (Some h) = pair_with h.part h.other
+
+-- among variables, the first of which has this number, the first for which a clash stands in the table
+abbrev pub shared_from : ℕ → List VarDecl → Touches → Option Rule
+shared_from v [] ts = None
+shared_from v (d ∷ ds) ts = or_else_rule v (pair_of (seen ts d.name)) (shared_from (v + 1) ds ts)

@@ -7,6 +7,7 @@ mod accepted;
 mod checker;
 mod declarations;
 mod fault;
+mod interference;
 mod kind;
 mod known;
 mod names;

@@ -1,9 +1,11 @@
 // Which parts of an `overlap` touch a variable.
-ghost use Rattle.std.specs.Prelude.{◌≡◌, ◌+◌, ◌<◌, IfOk, None, false, if◌then◌else◌, vec_len};
-ghost use Rattle.bs_check.specs.Touches.{IsBehind, Keeps, Noted, seen, seen_in, size, touched};
+ghost use Rattle.std.specs.Prelude.{◌≡◌, ◌+◌, ◌<◌, IfOk, None, false, if◌then◌else◌, slice_get};
+ghost use Rattle.bs_check.specs.Interference.{or_else_rule};
+ghost use Rattle.bs_check.specs.Touches.{IsBehind, Keeps, Noted, pair_of, seen, seen_in, size, touched};
 ghost use Rattle.bs_tree.specs.Reads.{is_same};
 ghost use Rattle.bs_tree.specs.declared.tree.NameId.{NameId as TheName};
 
+use crate::fault::Rule;
 use bs_tree::NameId;
 use std::alloc::{AllocError, Global};
 
@@ -73,6 +75,17 @@ impl Touches {
         self.touch(name, true);
     }
 
+    // The interference for the variable of this name, whose number is given.
+    #[tactic(auto, unfolding(crate::specs::Touches::seen))]
+    pub(crate) fn shared(&self, name: NameId, number: u32) -> Option<Rule>
+        ensures { result ≡ or_else_rule number (pair_of (seen self.now name)) None }
+    {
+        match row_at(self.touches.as_slice(), name.0 as usize) {
+            Some(touch) => shared_in(touch, self.overlap, number),
+            None => None,
+        }
+    }
+
     fn touch(&mut self, name: NameId, writes: bool)
         ensures keeps { Keeps self.old self.new }
         ensures touched { (n : TheName) → n.0 < size self.old → seen self.new n ≡ (if is_same name n then touched self.old.part writes (seen self.old n) else seen self.old n) }
@@ -107,5 +120,23 @@ fn touched_by(touch: Touch, overlap: u32, part: u32, writes: bool) -> Touch
         }
     } else {
         touch
+    }
+}
+
+fn row_at(touches: &[Touch], at: usize) -> Option<Touch>
+    ensures { result ≡ slice_get touches.now at }
+{
+    touches.get(at).copied()
+}
+
+fn shared_in(touch: Touch, overlap: u32, number: u32) -> Option<Rule>
+    ensures { result ≡ or_else_rule number (pair_of (seen_in overlap touch)) None }
+{
+    if touch.overlap != overlap {
+        return None;
+    }
+    match touch.other {
+        Some(other) => Some(Rule::Interference(number, touch.part, other)),
+        None => None,
     }
 }
