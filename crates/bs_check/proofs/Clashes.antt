@@ -1,12 +1,12 @@
 -- The first part that touches a variable, and the first later part that clashes with it, are the least pair.
-use Rattle.std.proofs.Common.{◌≡◌, ◌≢◌, ◌<◌, ◌+◌, ◌==◌, ◌||◌, ◌&&◌, ◌∙◌, ℕ, suc, Bool, true, false, if◌then◌else◌, List, [], ◌∷◌, Option, Some, None, refl, sym, ap, All, arith}
+use Rattle.std.proofs.Common.{◌≡◌, ◌≢◌, ◌<◌, ◌+◌, ◌||◌, ◌&&◌, ℕ, suc, Bool, true, false, if◌then◌else◌, List, [], ◌∷◌, Option, Some, None, refl, sym, ap, All, arith}
 use Rattle.std.proofs.lemmas.Bool.{ne_eqb}
 use Rattle.bs_tree.specs.declared.tree.NameId.{NameId}
 use Rattle.bs_tree.specs.declared.tree.Stmt.{Stmt}
 use Rattle.bs_tree.specs.declared.tree.VarDecl.{VarDecl}
 use Rattle.bs_tree.specs.Reads.{stmt_reads, stmt_writes}
-use Rattle.bs_check.specs.Interference.{touches, clash, partner, Pair, or_else_pair, pair, or_else_rule, interference_from}
-use Rattle.bs_check.specs.Touches.{Holder, Seen, or_part, held, touched, note, seen, after_parts, pair_with, pair_of, shared_from}
+use Rattle.bs_check.specs.Interference.{touches, partner, Pair, or_else_pair, pair, interference_from}
+use Rattle.bs_check.specs.Touches.{Seen, note, seen, after_parts, pair_with, pair_of, shared_from}
 use Rattle.bs_check.specs.declared.touches.Touches.{Touches}
 
 -- ---- once a clash is found it stays

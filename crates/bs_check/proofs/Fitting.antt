@@ -1,10 +1,10 @@
 -- What the limits say of the declarations.
-use Rattle.std.proofs.Common.{◌≡◌, ◌≤◌, ◌<◌, ◌*◌, ◌&&◌, ℕ, zero, suc, Bool, true, nat_le, List, [], ◌∷◌, length, get_or, All, arith}
+use Rattle.std.proofs.Common.{◌≡◌, ◌≤◌, zero, suc, true, List, [], ◌∷◌, length, All, arith}
 use Rattle.std.proofs.lemmas.Bool.{and_parts, leb-true}
 use Rattle.bs_tree.specs.declared.tree.EntryDecl.{EntryDecl}
 use Rattle.bs_tree.specs.declared.tree.Program.{Program}
 use Rattle.bs_semantics.specs.Layout.{all_cells}
-use Rattle.bs_check.specs.Declarations.{is_between, are_counts, are_few_params, are_lengths, are_few_cells, is_within}
+use Rattle.bs_check.specs.Declarations.{are_counts, are_few_params, are_few_cells, is_within}
 
 few_params : (es : List EntryDecl) → are_few_params es ≡ true → All (λ e. e.params ≤ 16) es
 few_params [] h n d k = absurd (omega arith)

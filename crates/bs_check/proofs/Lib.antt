@@ -6,3 +6,5 @@ pub mod Rows
 pub mod Unrolled
 pub mod Clashes
 pub mod PartByPart
+pub mod Everything
+pub mod Verdict

@@ -1,5 +1,5 @@
 -- The parts of an `overlap` are looked at one after another.
-use Rattle.std.proofs.Common.{◌≡◌, ◌<◌, ◌+◌, ◌∙◌, ℕ, Bool, List, ◌∷◌, length, get_or, drop, refl, sym, ap, subst, arith}
+use Rattle.std.proofs.Common.{◌≡◌, ◌<◌, ◌+◌, ◌∙◌, ℕ, Bool, List, ◌∷◌, length, get_or, drop, refl, ap, subst, arith}
 use Rattle.bs_tree.specs.declared.tree.NameId.{NameId}
 use Rattle.bs_tree.specs.declared.tree.Stmt.{Stmt}
 use Rattle.bs_tree.specs.Reads.{stmt_reads, stmt_writes}

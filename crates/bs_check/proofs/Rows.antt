@@ -1,6 +1,6 @@
 -- The rows of the table of touches.
 use Rattle.std.proofs.Common.{◌≡◌, ◌≢◌, ◌<◌, ◌≤◌, ◌==◌, ◌+◌, ◌||◌, ◌∙◌, ℕ, zero, suc, Bool, true, false, if◌then◌else◌, List, [], ◌∷◌, length, get_or, set, slice_get, drop, map, Option, Some, None, refl, subst, sym, ap, eqb-true, eq-eqb, All, length-set, arith}
-use Rattle.std.proofs.Math.Bool.{or_assoc, or_self}
+use Rattle.std.proofs.Math.Bool.{or_assoc}
 use Rattle.std.proofs.lemmas.Bool.{eqb-false, ne_eqb}
 use Rattle.std.proofs.lemmas.List.{get_or-set_same, drop_more, at_drop_all}
 use Rattle.std.proofs.lemmas.Option.{slice_get-get_or}
@@ -23,6 +23,10 @@ nothing_yet ts o name h = nothing_in o ts.touches.items name.0 h
 pub behind_next : (ts : Touches) (o : ℕ) → IsBehind ts o → IsBehind (record ts { overlap = o }) (o + 1)
 unfolding IsBehind
 behind_next ts o h k d l = let less = h k d l in omega arith
+
+pub behind_more : (ts : Touches) (o : ℕ) → IsBehind ts o → IsBehind ts (o + 1)
+unfolding IsBehind
+behind_more ts o h k d l = let less = h k d l in omega arith
 
 get_set_other : (xs : List Touch) (i n : ℕ) (t : Touch) → n ≢ i → slice_get (set xs i t) n ≡ slice_get xs n
 get_set_other [] i n t h = refl

@@ -1,5 +1,5 @@
 -- What each construct reads and writes, in terms of its parts.
-use Rattle.std.proofs.Common.{◌≡◌, ℤ, Bool, true, false, ◌||◌, List, Option, Some, None, ap, sym, ◌∙◌}
+use Rattle.std.proofs.Common.{◌≡◌, ℤ, Bool, false, ◌||◌, List, Option, Some, None, ap, sym, ◌∙◌}
 use Rattle.bs_tree.specs.declared.tree.NameId.{NameId}
 use Rattle.bs_tree.specs.declared.tree.Wait.{Wait}
 use Rattle.bs_tree.specs.declared.tree.Op2.{Op2}

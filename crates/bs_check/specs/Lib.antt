@@ -7,4 +7,5 @@ pub mod Rules
 pub mod Refusal
 pub mod Table
 pub mod Touches
+pub mod Walked
 pub mod Accepted

@@ -1,5 +1,5 @@
 -- Which rule a statement breaks by itself, statements inside it left aside (docs/program-text.md).
-use Rattle.std.specs.Prelude.{ℕ, nat_le, Bool, true, false, ◌&&◌, not, List, [], ◌∷◌, length, map, Option, Some, None}
+use Rattle.std.specs.Prelude.{nat_le, Bool, true, false, ◌&&◌, not, List, length, map, Option, Some, None}
 use Rattle.bs_tree.specs.Spends.{any_stmt_spends}
 use Rattle.bs_tree.specs.declared.tree.NameId.{NameId}
 use Rattle.bs_tree.specs.declared.tree.Wait.{Wait}

@@ -11,6 +11,7 @@ mod interference;
 mod kind;
 mod known;
 mod names;
+mod statements;
 mod touches;
 mod uses;
 

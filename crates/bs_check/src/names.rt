@@ -1,5 +1,7 @@
 // What the names of a program are declared as.
-ghost use Rattle.std.specs.Prelude.{◌≡◌, slice_get};
+ghost use Rattle.std.specs.Prelude.{◌≡◌, slice_get, true};
+ghost use Rattle.bs_check.specs.Declarations.{is_within};
+ghost use Rattle.bs_check.specs.Refusal.{IsWhole};
 ghost use Rattle.bs_check.specs.Kinds.{kind_of};
 ghost use Rattle.bs_check.specs.Known.{is_array, is_entry, is_scalar, takes};
 ghost use Rattle.bs_check.specs.Table.{IsTable, kind_in};
@@ -16,6 +18,8 @@ pub(crate) struct Names {
     pub(crate) cells: u32,
     ghost is_table: { IsTable program kinds.items },
     ghost has_cells: { cells ≡ all_cells program.vars },
+    ghost is_whole: { IsWhole program },
+    ghost is_within: { is_within program ≡ true },
 }
 
 impl Names {

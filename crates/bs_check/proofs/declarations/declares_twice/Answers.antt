@@ -1,4 +1,4 @@
-use Rattle.std.proofs.Common.{◌≡◌, ◌<◌, All, length}
+use Rattle.std.proofs.Common.{length}
 use Rattle.bs_check.proofs.Twice.{all_below}
 use Rattle.bs_check.proofs.declarations.declares_twice.Goals as goal
 

@@ -1,6 +1,6 @@
-use Rattle.std.proofs.Common.{◌≡◌, ◌≤◌, ℕ, length, vec_len, replicate, Option, Some, None, refl, arith, rules}
+use Rattle.std.proofs.Common.{◌≡◌, length, replicate, None, refl, rules}
 use Rattle.bs_check.specs.Kinds.{or_entry, var_kind, entry_kind}
-use Rattle.bs_check.specs.Table.{IsTable, kind_in, name_at}
+use Rattle.bs_check.specs.Table.{kind_in, name_at}
 use Rattle.bs_check.proofs.Fitting.{fitting}
 use Rattle.bs_check.proofs.Nothing.{none_in}
 use Rattle.bs_check.proofs.declarations.kinds_of.Goals as goal

@@ -1,4 +1,4 @@
-use Rattle.std.proofs.Common.{◌≡◌, ℕ, ◌+◌, drop, vec_len}
+use Rattle.std.proofs.Common.{◌≡◌, ℕ, drop, vec_len}
 use Rattle.bs_check.specs.Kinds.{or_entry, entry_kind}
 use Rattle.bs_check.specs.Table.{kind_in, name_at}
 use Rattle.bs_check.proofs.declarations.put_entries.Given as goal

@@ -1,6 +1,6 @@
-use Rattle.std.proofs.Common.{◌≡◌, ◌<◌, ◌∙◌, sym, Bool, true, false, get_or, replicate, length, refl, vec_len, arith}
+use Rattle.std.proofs.Common.{◌≡◌, ◌<◌, ◌∙◌, sym, false, get_or, replicate, length, refl, arith}
 use Rattle.std.proofs.lemmas.List.{get_or_read}
-use Rattle.bs_check.proofs.Twice.{hits, no_hit, one_more}
+use Rattle.bs_check.proofs.Twice.{no_hit, one_more}
 use Rattle.bs_check.proofs.declarations.repeats.Goals as goal
 
 pub loop-name-init : goal.loop-name-init

@@ -1,5 +1,4 @@
-use Rattle.std.proofs.Common.{◌≡◌, ◌<◌, ◌∙◌, ap, All, arith}
-use Rattle.bs_tree.specs.declared.tree.NameId.{NameId}
+use Rattle.std.proofs.Common.{◌∙◌, ap, arith}
 use Rattle.bs_check.specs.Touches.{after_parts, size}
 use Rattle.bs_check.proofs.Clashes.{shared_is}
 use Rattle.bs_check.proofs.interference.interference.Goals as goal

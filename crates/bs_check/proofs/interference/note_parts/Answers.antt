@@ -1,4 +1,4 @@
-use Rattle.std.proofs.Common.{◌≡◌, ◌+◌, arith}
+use Rattle.std.proofs.Common.{arith}
 use Rattle.bs_tree.specs.Reads.{stmt_reads, stmt_writes}
 use Rattle.bs_check.specs.Touches.{Noted}
 use Rattle.bs_check.proofs.PartByPart.{follows_next, parts_next}

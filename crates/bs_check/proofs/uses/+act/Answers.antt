@@ -1,6 +1,4 @@
-use Rattle.std.proofs.Common.{◌≡◌, ◌≤◌, false, refl, arith}
 use Rattle.bs_tree.specs.Reads.{act_reads, act_writes}
-use Rattle.bs_check.specs.Touches.{Noted}
 use Rattle.bs_check.proofs.Rows.{left_item, left_end, noted_none, noted_as, noted_then, then_reads, then_writes}
 use Rattle.bs_check.proofs.Unrolled.{reads_set, writes_set, reads_setat, writes_setat, reads_send, writes_send, reads_if_else, writes_if_else, reads_if_only, writes_if_only, reads_repeat, writes_repeat}
 use Rattle.bs_check.proofs.uses.+act.Goals as goal

@@ -1,6 +1,4 @@
-use Rattle.std.proofs.Common.{◌≡◌, false, refl, rules}
-use Rattle.bs_tree.specs.Reads.{is_same, mentions}
-use Rattle.bs_check.specs.Touches.{Noted}
+use Rattle.std.proofs.Common.{refl}
 use Rattle.bs_check.proofs.Rows.{noted_none, noted_as, then_reads}
 use Rattle.bs_check.proofs.Unrolled.{mentions_number, mentions_this, mentions_chares, mentions_at, mentions_two}
 use Rattle.bs_check.proofs.uses.+note_expr.Goals as goal

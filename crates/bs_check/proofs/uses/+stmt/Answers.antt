@@ -1,6 +1,4 @@
-use Rattle.std.proofs.Common.{◌≡◌, ◌≤◌, false, refl, arith}
 use Rattle.bs_tree.specs.Reads.{stmt_reads, stmt_writes}
-use Rattle.bs_check.specs.Touches.{Noted}
 use Rattle.bs_check.proofs.Rows.{left_item, left_end, noted_none, noted_as, noted_then, then_reads, then_writes}
 use Rattle.bs_check.proofs.Unrolled.{stmt_reads_when, stmt_writes_when, stmt_reads_for, stmt_writes_for, stmt_reads_while, stmt_writes_while, stmt_reads_if_else, stmt_writes_if_else, stmt_reads_if_only, stmt_writes_if_only}
 use Rattle.bs_check.proofs.uses.+stmt.Goals as goal

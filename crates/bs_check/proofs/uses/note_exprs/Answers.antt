@@ -1,6 +1,4 @@
-use Rattle.std.proofs.Common.{◌≡◌, ◌≤◌, false, refl, arith}
 use Rattle.bs_tree.specs.Reads.{mentions}
-use Rattle.bs_check.specs.Touches.{Noted}
 use Rattle.bs_check.proofs.Rows.{left_read, left_read_end}
 use Rattle.bs_check.proofs.uses.note_exprs.Goals as goal
 

@@ -1,6 +1,4 @@
-use Rattle.std.proofs.Common.{◌≡◌, ◌≤◌, false, refl, arith}
-use Rattle.bs_tree.specs.Reads.{mentions, mentions_if_given}
-use Rattle.bs_check.specs.Touches.{Noted}
+use Rattle.std.proofs.Common.{refl}
 use Rattle.bs_check.proofs.Rows.{noted_none, noted_as}
 use Rattle.bs_check.proofs.uses.note_if_given.Goals as goal
 

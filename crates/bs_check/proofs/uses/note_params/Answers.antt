@@ -1,6 +1,5 @@
-use Rattle.std.proofs.Common.{◌≡◌, ◌≤◌, false, refl, arith}
+use Rattle.std.proofs.Common.{refl}
 use Rattle.bs_tree.specs.Reads.{is_same}
-use Rattle.bs_check.specs.Touches.{Noted}
 use Rattle.bs_check.proofs.Rows.{left_write, left_write_end}
 use Rattle.bs_check.proofs.uses.note_params.Goals as goal
 

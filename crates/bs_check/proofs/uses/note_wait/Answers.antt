@@ -1,6 +1,3 @@
-use Rattle.std.proofs.Common.{◌≡◌, ◌≤◌, false, refl, arith}
-use Rattle.bs_tree.specs.Reads.{wait_reads, wait_writes}
-use Rattle.bs_check.specs.Touches.{Noted}
 use Rattle.bs_check.proofs.Rows.{then_writes}
 use Rattle.bs_check.proofs.uses.note_wait.Goals as goal
 

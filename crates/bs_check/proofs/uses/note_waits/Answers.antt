@@ -1,6 +1,4 @@
-use Rattle.std.proofs.Common.{◌≡◌, ◌≤◌, false, refl, arith}
 use Rattle.bs_tree.specs.Reads.{wait_reads, wait_writes}
-use Rattle.bs_check.specs.Touches.{Noted}
 use Rattle.bs_check.proofs.Rows.{left_item, left_end}
 use Rattle.bs_check.proofs.uses.note_waits.Goals as goal
 

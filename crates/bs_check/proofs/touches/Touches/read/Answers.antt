@@ -1,4 +1,3 @@
-use Rattle.std.proofs.Common.{◌≡◌, true, false, refl}
 use Rattle.bs_check.proofs.Rows.{read_noted}
 use Rattle.bs_check.proofs.touches.Touches.read.Goals as goal
 

@@ -1,4 +1,3 @@
-use Rattle.std.proofs.Common.{◌≡◌, true, false, refl}
 use Rattle.bs_check.proofs.Rows.{write_noted}
 use Rattle.bs_check.proofs.touches.Touches.write.Goals as goal
 
