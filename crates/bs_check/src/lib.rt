@@ -19,3 +19,6 @@ pub use accepted::Accepted;
 pub use checker::check;
 pub use fault::{CheckFault, Rule};
 pub use kind::Kind;
+
+#[cfg(test)]
+mod tests;
