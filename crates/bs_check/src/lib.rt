@@ -5,10 +5,20 @@
 
 mod accepted;
 mod checker;
+mod declarations;
 mod fault;
+mod interference;
 mod kind;
+mod known;
+mod names;
+mod statements;
+mod touches;
+mod uses;
 
 pub use accepted::Accepted;
 pub use checker::check;
 pub use fault::{CheckFault, Rule};
 pub use kind::Kind;
+
+#[cfg(test)]
+mod tests;
