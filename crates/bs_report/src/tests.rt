@@ -4,6 +4,7 @@ ghost use Rattle.bs_report.specs.Report.{IsTimed};
 
 use crate::{Fault, end, fault_line, report};
 use bs_log::{End, Key, OutRow, Outcome, TrapKind, TrapRow, WaitRow};
+use bs_machine::{MachineFault, MachineKey, PlaceLength};
 use bs_tree::List;
 use std::alloc::{AllocError, Global};
 use std::process::Abort;
@@ -249,6 +250,29 @@ fn fault_lines(rt: HostRuntime) -> Result<(), Fail> {
     let cases = [
         (Fault::BadWords, "bad words\n"),
         (Fault::NotBuilt, "bad program: not built\n"),
+        (
+            Fault::BadMachine(MachineFault::NotToml),
+            "bad machine: not toml\n",
+        ),
+        (
+            Fault::BadMachine(MachineFault::UnknownKey),
+            "bad machine: unknown key\n",
+        ),
+        (
+            Fault::BadMachine(MachineFault::Missing(MachineKey::TorusSizes)),
+            "bad machine: missing torus.sizes\n",
+        ),
+        (
+            Fault::BadMachine(MachineFault::OutOfRange(MachineKey::LatencyBase, Some(0))),
+            "bad machine: out of range latency.base\n",
+        ),
+        (
+            Fault::BadPlace(PlaceLength {
+                given: 2,
+                needed: 3,
+            }),
+            "bad machine: place length 2 needs 3\n",
+        ),
         (Fault::TooBig(1_048_576), "too big: limit 1048576 bytes\n"),
     ];
     for (fault, want) in &cases {

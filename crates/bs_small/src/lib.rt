@@ -4,13 +4,11 @@
 //! `docs/program-text.md` says what the small form is.
 #![tactic(auto)]
 
-mod flat;
 mod form;
 pub mod laws;
 mod model;
 mod reader;
 
-pub use flat::Flat;
 pub use form::{Given, Small, SmallAct};
 pub use model::{Sending, Starts, run};
 pub use reader::read;

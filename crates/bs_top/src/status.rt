@@ -15,6 +15,8 @@ pub enum Status {
     BadWords,
     /// The text is none of the programs that can be run (11).
     BadProgram,
+    /// The machine's file is no machine, or the machine doesn't fit the program (13).
+    BadMachine,
     /// A file has more bytes than it may have (18).
     TooBig,
     /// A file could not be opened or read (20).
@@ -38,6 +40,7 @@ impl Status {
             Status::Trapped => 4,
             Status::BadWords => 10,
             Status::BadProgram => 11,
+            Status::BadMachine => 13,
             Status::TooBig => 18,
             Status::ReadFault => 20,
             Status::WriteFault => 21,
