@@ -9,3 +9,9 @@ pub mod Enter
 pub mod Onward
 pub mod Exact
 pub mod Ends
+pub mod Numbering
+pub mod Taking
+pub mod Told
+pub mod Refused
+pub mod OneFault
+pub mod OneText

@@ -1,5 +1,5 @@
 -- Which texts spell a program, and what is wrong with one that doesn't (docs/program-text.md).
-use Rattle.std.specs.Prelude.{◌≡◌, ℕ, zero, suc, List, [], ◌∷◌, ◌++◌, map, Some, Ok, Err, Result, Bool, ◌||◌, if◌then◌else◌, false, slice_get}
+use Rattle.std.specs.Prelude.{◌≡◌, ℕ, suc, List, [], ◌∷◌, ◌++◌, map, Some, Ok, Err, Bool, ◌||◌, if◌then◌else◌, false, slice_get}
 use Rattle.std.specs.Str.{bytes_eq}
 use Rattle.bs_tree.specs.Symbol as s
 use Rattle.bs_tree.specs.Symbol.{Symbol}
@@ -10,7 +10,8 @@ use Rattle.bs_tree.specs.Fault.{IsProgram, IsFirstFault}
 use Rattle.bs_tree.specs.declared.tree.Name.{Name}
 use Rattle.bs_tree.specs.declared.tree.Program.{Program}
 use Rattle.bs_lex.specs.declared.token.Token.{Token}
-use Rattle.bs_lex.specs.declared.token.TokenKind.{TokenKind}
+use Rattle.bs_lex.specs.declared.token.LexFault.{LexFault}
+use Rattle.bs_lex.specs.declared.token.LexFault.TheVariants as lex
 use Rattle.bs_lex.specs.Lexed.{lexed}
 use Rattle.bs_lex.specs.Symbols.{symbols}
 use Rattle.bs_parse.specs.declared.text.ParseFault.{ParseFault}
@@ -74,6 +75,17 @@ pub record IsFaultAt (text : List ℕ) (reason : Reason) (token : Token) : Type 
   pub place : ℕ
   pub first : IsFirstFault (terminals_of (symbols text tokens)) place reason
   pub at : slice_get tokens place ≡ Some token
+
+-- the fault of a token for this reason
+abbrev pub fault_at : Reason → Token → ParseFault
+fault_at unexpected token = Unexpected token.from token.kind
+fault_at too_deep token = TooDeep token.from
+fault_at too_many token = TooManyStatements token.from
+
+-- what a text is refused for where its tokens are refused
+abbrev pub refused_lexer : LexFault → ParseFault
+refused_lexer lex.Memory = Memory
+refused_lexer fault = Lex fault
 
 -- what a text is refused for: a fault of its tokens, or else the first token at fault, by the place of its first byte
 abbrev pub IsFault : List ℕ → ParseFault → Type 0

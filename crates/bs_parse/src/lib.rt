@@ -6,10 +6,16 @@
 mod acts;
 mod cursor;
 mod expressions;
+pub mod laws;
+mod names;
 mod program;
 mod statements;
 mod text;
+pub mod text_laws;
 mod tokens;
 mod whole;
 
 pub use text::{ParseFault, parse};
+
+#[cfg(test)]
+mod tests;

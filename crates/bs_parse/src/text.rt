@@ -1,12 +1,16 @@
 // The program of a text.
 ghost use Rattle.std.specs.Prelude.{◌≡◌, ◌≢◌, ◌⊎◌, IfErr, IfOk, Ok, Err};
 ghost use Rattle.bs_tree.specs.declared.tree.Program.{Program as Tree};
-ghost use Rattle.bs_parse.specs.Text.{IsFault, Spells};
+ghost use Rattle.bs_parse.specs.Seen.{reason_of};
+ghost use Rattle.bs_parse.specs.Text.{IsFault, Spells, fault_at as fault_of, refused_lexer};
 ghost use Rattle.bs_parse.specs.declared.text.ParseFault.TheVariants.{Memory};
 
-use bs_lex::{LexFault, TokenKind};
+use crate::cursor::Reason;
+use crate::names::lexemes;
+use crate::whole::{WholeFault, whole};
+use bs_lex::{LexFault, Token, TokenKind, tokens};
 use bs_tree::Program;
-use std::alloc::Global;
+use std::alloc::{AllocError, Global};
 
 /// Why a text spells no program. A place is a byte of the text, counted from 0: the first byte of the first token with a
 /// fault, or the length of the text where its end is at fault.
@@ -24,6 +28,25 @@ pub enum ParseFault {
     Memory,
 }
 
+impl From<AllocError> for ParseFault {
+    ghost from_gives = { λ _ given. given ≡ Memory };
+
+    fn from(_error: AllocError) -> ParseFault {
+        ParseFault::Memory
+    }
+}
+
+impl From<LexFault> for ParseFault {
+    ghost from_gives = { λ fault given. given ≡ refused_lexer fault };
+
+    fn from(fault: LexFault) -> ParseFault {
+        match fault {
+            LexFault::Memory => ParseFault::Memory,
+            fault => ParseFault::Lex(fault),
+        }
+    }
+}
+
 /// The program that a text spells. `docs/program-text.md` says which texts spell one, and what is
 /// the first fault of one that doesn't.
 pub fn parse(alloc: Global, text: &[u8]) -> Result<Program, ParseFault>
@@ -31,6 +54,27 @@ pub fn parse(alloc: Global, text: &[u8]) -> Result<Program, ParseFault>
     ensures only { (program : Tree) → Spells text.now program → (result ≡ Ok program) ⊎ (result ≡ Err Memory) }
     ensures err { IfErr result (λ fault. fault ≢ Memory → IsFault text.now fault) }
 {
-    let _ = (alloc, text);
-    Err(ParseFault::Memory)
+    let tokens = tokens(alloc, text)?;
+    let (lexemes, names) = lexemes(alloc, text, tokens.as_slice())?;
+    match whole(alloc, lexemes.as_slice()) {
+        Ok((chares, vars, entries, body)) => Ok(Program {
+            chares,
+            names,
+            vars,
+            entries,
+            body,
+        }),
+        Err(WholeFault::Memory) => Err(ParseFault::Memory),
+        Err(WholeFault::At(place, reason)) => Err(fault_at(tokens.as_slice()[place], reason)),
+    }
+}
+
+fn fault_at(token: Token, reason: Reason) -> ParseFault
+    ensures { result ≡ fault_of (reason_of reason) token }
+{
+    match reason {
+        Reason::Unexpected => ParseFault::Unexpected(token.from, token.kind),
+        Reason::TooDeep => ParseFault::TooDeep(token.from),
+        Reason::TooMany => ParseFault::TooManyStatements(token.from),
+    }
 }
