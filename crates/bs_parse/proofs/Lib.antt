@@ -15,3 +15,8 @@ pub mod Told
 pub mod Refused
 pub mod OneFault
 pub mod OneText
+pub mod Measured
+pub mod NamesIn
+pub mod Openings
+pub mod Places
+pub mod Counted

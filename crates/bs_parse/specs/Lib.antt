@@ -4,3 +4,4 @@ pub mod Whole
 pub mod Text
 pub mod Naming
 pub mod TextLaws
+pub mod Names
