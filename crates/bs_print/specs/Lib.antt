@@ -1,1 +1,4 @@
+pub mod Expressions
+pub mod Statements
 pub mod Canonical
+pub mod Law
