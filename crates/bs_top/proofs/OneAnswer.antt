@@ -5,27 +5,19 @@ use Rattle.bs_desk.specs.Outside.{Files}
 use Rattle.bs_log.specs.declared.outcome.Outcome.{Outcome}
 use Rattle.bs_machine.specs.File.{machine_in}
 use Rattle.bs_machine.specs.Machine.{MachineOf, flat_in}
+use Rattle.bs_parse.specs.TextLaws.{OneProgram, OneFault, NotBoth}
 use Rattle.bs_report.specs.declared.faults.Fault.TheVariants as fault
 use Rattle.bs_report.specs.End.{end_of}
 use Rattle.bs_report.specs.Report.{report_text}
 use Rattle.bs_semantics.specs.Serial.{IsSerial, Machine, Simulated, timed}
-use Rattle.bs_small.specs.declared.form.Small.{Small}
-use Rattle.bs_small.specs.Form.{program_of}
 use Rattle.bs_small.specs.Machine.{machine_of}
-use Rattle.bs_small.specs.Spelled.{Spells}
-use Rattle.bs_small.specs.Symbols.{symbols}
-use Rattle.bs_tree.specs.Symbol.{Symbol}
 use Rattle.bs_tree.specs.declared.tree.Program.{Program}
 use Rattle.bs_top.specs.declared.stop.Stop.TheVariants.{Refused}
-use Rattle.bs_top.specs.Answer.{Answer, IsAnswer, IsReport, IsSmallText, answer_of, contents, fits, machine_named, or_bad_machine, program_in, reply_to, run, simulated, whole}
+use Rattle.bs_top.specs.Answer.{Answer, IsAnswer, IsReport, answer_of, contents, fits, is_built, machine_named, or_bad_machine, program_in, reply_to, run, simulated, whole}
 use Rattle.bs_top.specs.Step.{Said, and_then, gives}
 use Rattle.bs_top.specs.Words.{Asked, model, MachineWord, flat, file, size_limit}
 use Rattle.bs_top.proofs.OneMachine.{one_machine}
 use Rattle.bs_top.proofs.OneStep.{IsOne, one_after, one_given}
-use Rattle.bs_top.proofs.Simulating.{one_list}
-
-abbrev pub OneReading : Type 0
-OneReading = (said : List Symbol) (x y e f : List ℕ) (s t : Small) → Spells said x e s → Spells said y f t → (x ≡ y) × (e ≡ f) × (s ≡ t)
 
 abbrev pub OneSerial : Type 0
 OneSerial = (p : Program) (limit : ℕ) (m : Machine) (r s : Simulated) → IsSerial p limit m r → IsSerial p limit m s → r ≡ s
@@ -46,19 +38,20 @@ one_fit chares m r s a b = sym a ∙ b
 outcome_is : (o q : Outcome) → timed o ≡ timed q → o ≡ q
 outcome_is o q e = cc
 
-module _ (reading : OneReading) (serial : OneSerial) where
-  same_program : (text x y e f : List ℕ) (s t : Small) → IsSmallText text x e s → IsSmallText text y f t → (x ≡ y) × (e ≡ f) × (s ≡ t)
-  same_program text x y e f s t a b =
-      reading (symbols text a.tokens) x y e f s t a.spells (subst (λ ts. Spells (symbols text ts) y f t) (one_list text b.tokens a.tokens b.read a.read) b.spells)
+one_built : (p : Program) → IsOne (is_built p)
+unfolding is_built
+one_built p (Ok a) (Ok b) h k = refl
+one_built p (Ok a) (Err s) h k = absurd (k.1 h.0 h.1)
+one_built p (Err r) (Ok b) h k = absurd (h.1 k.0 k.1)
+one_built p (Err r) (Err s) h k = ap (λ t. Err t) (h.0 ∙ sym k.0)
 
+module _ (program : OneProgram) (fault_is : OneFault) (not_both : NotBoth) (serial : OneSerial) where
   one_program : (text : List ℕ) → IsOne (program_in text)
   unfolding program_in
-  one_program text (Ok p) (Ok q) h k =
-      let same = same_program text h.0 k.0 h.1 k.1 h.2 k.2 h.3 k.3 in
-      ap (λ p. Ok p) (h.4 ∙ (λ i. program_of (same.0 i) (same.1 i) (same.2 i)) ∙ sym k.4)
-  one_program text (Ok p) (Err s) h k = absurd (k.1 h.0 h.1 h.2 h.3)
-  one_program text (Err r) (Ok q) h k = absurd (h.1 k.0 k.1 k.2 k.3)
-  one_program text (Err r) (Err s) h k = ap (λ t. Err t) (h.0 ∙ sym k.0)
+  one_program text (Ok p) (Ok q) h k = ap (λ r. Ok r) (program text p q h k)
+  one_program text (Ok p) (Err s) h k = absurd (not_both text p k.0 h k.1)
+  one_program text (Err r) (Ok q) h k = absurd (not_both text q h.0 k h.1)
+  one_program text (Err r) (Err s) h k = ap (λ t. Err t) (h.2 ∙ ap (λ f. Refused (fault.BadProgram f)) (fault_is text h.0 k.0 h.1 k.1) ∙ sym k.2)
 
   same_outcome : (p : Program) (m : MachineOf) (a b : Said) (h : IsReport p m a) (k : IsReport p m b) → h.outcome ≡ k.outcome
   same_outcome p m a b h k =
@@ -71,17 +64,18 @@ module _ (reading : OneReading) (serial : OneSerial) where
   one_run p m (Ok a) (Err s) h k = absurd k
   one_run p m (Err r) s h k = absurd h
 
-  one_simulated : (text : List ℕ) (m : MachineOf) → IsOne (simulated text m)
+  one_simulated : (p : Program) (m : MachineOf) → IsOne (simulated p m)
   unfolding simulated
-  one_simulated text m = one_after (program_in text) (λ p. and_then (fits p.chares m) (λ _. run p m)) (one_program text)
-      (λ p. one_after (fits p.chares m) (λ _. run p m) (one_fit p.chares m) (λ _. one_run p m))
+  one_simulated p m = one_after (is_built p) (λ _. and_then (fits p.chares m) (λ _. run p m)) (one_built p)
+      (λ _. one_after (fits p.chares m) (λ _. run p m) (one_fit p.chares m) (λ _. one_run p m))
 
   one_reply : (files : Files) (asked : Option Asked) → IsOne (reply_to files asked)
   unfolding reply_to
   one_reply files None = one_given (Err (Refused fault.BadWords))
-  one_reply files (Some (model program word)) =
-      one_after (contents files program) (λ text. and_then (machine_named files word) (λ m. simulated text m)) (one_contents files program)
-      (λ text. one_after (machine_named files word) (λ m. simulated text m) (one_named files word) (λ m. one_simulated text m))
+  one_reply files (Some (model name word)) =
+      one_after (contents files name) (λ text. and_then (program_in text) (λ p. and_then (machine_named files word) (λ m. simulated p m))) (one_contents files name)
+      (λ text. one_after (program_in text) (λ p. and_then (machine_named files word) (λ m. simulated p m)) (one_program text)
+      (λ p. one_after (machine_named files word) (λ m. simulated p m) (one_named files word) (λ m. one_simulated p m)))
 
   pub one : (files : Files) (asked : Option Asked) (a b : Answer) → IsAnswer files asked a → IsAnswer files asked b → a ≡ b
   one files asked a b h k = h.is_answer ∙ ap answer_of (one_reply files asked h.reply k.reply h.is_reply k.is_reply) ∙ sym k.is_answer

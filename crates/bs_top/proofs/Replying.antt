@@ -10,32 +10,42 @@ use Rattle.std.specs.Option.{option_and_then, option_map}
 use Rattle.bs_top.specs.declared.stop.Reply.{Reply}
 use Rattle.bs_top.specs.declared.stop.Stop.{Stop}
 use Rattle.bs_top.specs.declared.stop.Stop.TheVariants.{Refused}
-use Rattle.bs_top.specs.Answer.{contents, machine_named, reply_to, simulated}
+use Rattle.bs_top.specs.Answer.{contents, machine_named, program_in, reply_to, simulated}
 use Rattle.bs_top.specs.declared.asked.Asked.{Asked as AskedFor}
 use Rattle.bs_top.specs.Seen.{asked_of, said_of}
 use Rattle.bs_top.specs.Step.{Told, and_then}
 use Rattle.bs_top.specs.Stops.{stop_for_words}
 use Rattle.bs_top.specs.Words.{Asked, model, MachineWord, built}
+use Rattle.bs_tree.specs.declared.tree.Program.{Program}
 use Rattle.bs_top.proofs.Machines.{items}
+use Rattle.bs_top.proofs.Simulating.{itself}
 use Rattle.bs_top.proofs.Stages.{stops, goes_on}
 
-module _ (files : Files) (program : List ℕ) (word : MachineWord) where
+module _ (files : Files) (name : List ℕ) (word : MachineWord) where
   abbrev pub reply : Option Asked
-  reply = Some (model program word)
+  reply = Some (model name word)
 
-  pub no_text : (stop : Stop) → Told items (contents files program) (Err stop) → Told said_of (reply_to files reply) (Err stop)
+  pub no_text : (stop : Stop) → Told items (contents files name) (Err stop) → Told said_of (reply_to files reply) (Err stop)
   unfolding reply_to
-  no_text stop h = stops items said_of (contents files program) (λ text. and_then (machine_named files word) (λ m. simulated text m)) stop h
+  no_text stop h = stops items said_of (contents files name) (λ text. and_then (program_in text) (λ p. and_then (machine_named files word) (λ m. simulated p m))) stop h
 
-  pub no_machine : (text : List ℕ) (stop : Stop) → contents files program (Ok text) → Told machine_view (machine_named files word) (Err stop) → Told said_of (reply_to files reply) (Err stop)
-  unfolding reply_to
-  no_machine text stop h k = goes_on said_of (contents files program) (λ text. and_then (machine_named files word) (λ m. simulated text m)) text (Err stop) h
-      (stops machine_view said_of (machine_named files word) (λ m. simulated text m) stop k)
+  module _ (text : List ℕ) (is_text : contents files name (Ok text)) where
+    pub no_program : (stop : Stop) → Told itself (program_in text) (Err stop) → Told said_of (reply_to files reply) (Err stop)
+    unfolding reply_to
+    no_program stop h = goes_on said_of (contents files name) (λ text. and_then (program_in text) (λ p. and_then (machine_named files word) (λ m. simulated p m))) text (Err stop) is_text
+        (stops itself said_of (program_in text) (λ p. and_then (machine_named files word) (λ m. simulated p m)) stop h)
 
-  pub on_machine : (text : List ℕ) (m : MachineOf) (r : Result Reply Stop) → contents files program (Ok text) → machine_named files word (Ok m) → Told said_of (simulated text m) r → Told said_of (reply_to files reply) r
-  unfolding reply_to
-  on_machine text m r h k l = goes_on said_of (contents files program) (λ text. and_then (machine_named files word) (λ m. simulated text m)) text r h
-      (goes_on said_of (machine_named files word) (λ m. simulated text m) m r k l)
+    module _ (p : Program) (is_program : program_in text (Ok p)) where
+      on_program : (r : Result Reply Stop) → Told said_of (and_then (machine_named files word) (λ m. simulated p m)) r → Told said_of (reply_to files reply) r
+      unfolding reply_to
+      on_program r h = goes_on said_of (contents files name) (λ text. and_then (program_in text) (λ p. and_then (machine_named files word) (λ m. simulated p m))) text r is_text
+          (goes_on said_of (program_in text) (λ p. and_then (machine_named files word) (λ m. simulated p m)) p r is_program h)
+
+      pub no_machine : (stop : Stop) → Told machine_view (machine_named files word) (Err stop) → Told said_of (reply_to files reply) (Err stop)
+      no_machine stop h = on_program (Err stop) (stops machine_view said_of (machine_named files word) (λ m. simulated p m) stop h)
+
+      pub on_machine : (m : MachineOf) (r : Result Reply Stop) → machine_named files word (Ok m) → Told said_of (simulated p m) r → Told said_of (reply_to files reply) r
+      on_machine m r h k = on_program r (goes_on said_of (machine_named files word) (λ m. simulated p m) m r h k)
 
 pub no_words : (files : Files) → Told said_of (reply_to files None) (Err (Refused fault.BadWords))
 unfolding reply_to

@@ -1,60 +1,61 @@
--- What comes of a text on a machine, from its steps.
-use Rattle.std.proofs.Common.{◌≡◌, ◌≢◌, ℕ, List, refl, sym, subst, inl, Result, Ok, Err}
-use Rattle.bs_lex.specs.declared.token.Token.{Token}
-use Rattle.bs_lex.specs.declared.token.LexFault.{LexFault}
-use Rattle.bs_lex.specs.Lexed.{lexed}
-use Rattle.bs_small.specs.Spelled.{Spells, IsNotSmall}
-use Rattle.bs_small.specs.Symbols.{symbols}
+-- What comes of a program on a machine, from its steps.
+use Rattle.std.proofs.Common.{◌≡◌, ◌≢◌, ℕ, List, refl, sym, ap, subst, inl, Result, Ok, Err}
 use Rattle.bs_machine.specs.Machine.{MachineOf}
 use Rattle.bs_machine.specs.declared.fitted.Fitted.{Fitted}
+use Rattle.bs_parse.specs.Text.{IsFault}
+use Rattle.bs_parse.specs.declared.text.ParseFault.{ParseFault}
+use Rattle.bs_parse.specs.declared.text.ParseFault.TheVariants as parse
 use Rattle.bs_report.specs.declared.faults.Fault.{Fault}
 use Rattle.bs_report.specs.declared.faults.Fault.TheVariants as fault
 use Rattle.bs_small.specs.declared.form.Small.{Small}
-use Rattle.bs_small.specs.Form.{program_of}
+use Rattle.bs_small.specs.Program.{IsSmallProgram}
+use Rattle.bs_tree.specs.declared.tree.Program.{Program}
 use Rattle.bs_top.specs.declared.stop.Reply.{Reply}
 use Rattle.bs_top.specs.declared.stop.Stop.{Stop}
 use Rattle.bs_top.specs.declared.stop.Stop.TheVariants.{Refused, NoFile, ReadFault, Memory}
-use Rattle.bs_top.specs.Answer.{IsNoSmallText, IsReport, IsSmallText, fits, program_in, run, simulated}
-use Rattle.bs_top.specs.Computing.{Computes, IsComputed, IsSmallIn}
+use Rattle.bs_top.specs.Answer.{IsReport, fits, is_built, program_in, run, simulated}
+use Rattle.bs_top.specs.Computing.{Computes, IsComputed, IsSmallOf}
 use Rattle.bs_top.specs.Seen.{said_of}
 use Rattle.bs_top.specs.Step.{Said, Told, and_then}
+use Rattle.bs_top.specs.Stops.{stop_for_program}
 use Rattle.bs_top.proofs.Stages.{stops, goes_on}
 
-tokens_are : (r : Result (List Token) LexFault) (xs ys : List Token) → r ≡ Ok xs → r ≡ Ok ys → xs ≡ ys
-tokens_are r xs ys a b = cc
+abbrev pub itself : Program → Program
+itself p = p
 
-pub one_list : (text : List ℕ) (xs ys : List Token) → lexed text ≡ Ok xs → lexed text ≡ Ok ys → xs ≡ ys
-one_list text xs ys a b = tokens_are (lexed text) xs ys a b
-
-pub no_small_text : (text : List ℕ) (tokens : List Token) → lexed text ≡ Ok tokens → IsNotSmall (symbols text tokens) → IsNoSmallText text
-no_small_text text tokens read none x e s is =
-    none x e s (subst (λ ts. Spells (symbols text ts) x e s) (one_list text is.tokens tokens is.read read) is.spells)
-
--- no step computes a fault of words or of a file's length
-computed : (why : Fault) → Refused why ≡ Refused fault.NotBuilt → IsComputed why
-computed why e = let f : why ≡ fault.NotBuilt = cc in subst IsComputed (sym f) tt
-
-pub small_computes : (text : List ℕ) (stop : Stop) → IsSmallIn text (Err stop) → Computes {A = Reply} (Err stop)
+pub bad_program : (text : List ℕ) (why : ParseFault) → (why ≢ parse.Memory → IsFault text why) → Told itself (program_in text) (Err (stop_for_program why))
 unfolding program_in
-small_computes text (Refused why) h = computed why h.0
-small_computes text NoFile h = h
-small_computes text ReadFault h = h
-small_computes text Memory h = tt
+bad_program text (parse.Lex why) h = (parse.Lex why, h (λ e. absurd (cc)), refl)
+bad_program text (parse.Unexpected byte kind) h = (parse.Unexpected byte kind, h (λ e. absurd (cc)), refl)
+bad_program text (parse.TooDeep byte) h = (parse.TooDeep byte, h (λ e. absurd (cc)), refl)
+bad_program text (parse.TooManyStatements byte) h = (parse.TooManyStatements byte, h (λ e. absurd (cc)), refl)
+bad_program text parse.Memory h = tt
 
-module _ (text : List ℕ) (m : MachineOf) where
-  pub not_small : (stop : Stop) → IsSmallIn text (Err stop) → Told said_of (simulated text m) (Err stop)
-  unfolding simulated
-  not_small (Refused why) h = inl h
+pub small_computes : (p : Program) (stop : Stop) → IsSmallOf p (Err stop) → Computes {A = Reply} (Err stop)
+small_computes p (Refused why) h = subst IsComputed (sym h.0) tt
+small_computes p NoFile h = h
+small_computes p ReadFault h = h
+small_computes p Memory h = tt
+
+module _ (p : Program) (m : MachineOf) where
+  pub not_small : (stop : Stop) → IsSmallOf p (Err stop) → Told said_of (simulated p m) (Err stop)
+  unfolding simulated is_built
+  not_small (Refused why) h = inl (ap (λ f. Refused f) h.0, h.1)
   not_small NoFile h = absurd h
   not_small ReadFault h = tt
   not_small Memory h = tt
 
-  module _ (x e : List ℕ) (s : Small) (is : IsSmallText text x e s) where
-    pub unfit : (stop : Stop) → Told (λ (f : Fitted). tt) (fits 2 m) (Err stop) → Told said_of (simulated text m) (Err stop)
-    unfolding simulated program_in
-    unfit stop h = goes_on said_of (program_in text) (λ p. and_then (fits p.chares m) (λ _. run p m)) (program_of x e s) (Err stop) (x, e, s, is, refl)
-        (stops (λ (f : Fitted). tt) said_of (fits 2 m) (λ _. run (program_of x e s) m) stop h)
+  module _ (s : Small) (is : IsSmallProgram p s) where
+    built : is_built p (Ok tt)
+    unfolding is_built
+    built = (s, is)
 
-    pub ran : (said : Said) → fits 2 m (Ok tt) → IsReport (program_of x e s) m said → simulated text m (Ok said)
-    unfolding simulated program_in
-    ran said fit report = (program_of x e s, (x, e, s, is, refl), (tt, fit, report))
+    pub unfit : (stop : Stop) → Told (λ (f : Fitted). tt) (fits 2 m) (Err stop) → Told said_of (simulated p m) (Err stop)
+    unfolding simulated
+    unfit stop h = goes_on said_of (is_built p) (λ _. and_then (fits p.chares m) (λ _. run p m)) tt (Err stop) built
+        (stops (λ (f : Fitted). tt) said_of (fits p.chares m) (λ _. run p m) stop
+        (subst (λ n. Told (λ (f : Fitted). tt) (fits n m) (Err stop)) (sym (ap (λ (q : Program). q.chares) is.is)) h))
+
+    pub ran : (said : Said) → fits 2 m (Ok tt) → IsReport p m said → simulated p m (Ok said)
+    unfolding simulated
+    ran said fit report = (tt, built, (tt, subst (λ n. fits n m (Ok tt)) (sym (ap (λ (q : Program). q.chares) is.is)) fit, report))

@@ -33,6 +33,7 @@ module _ (files : Files) (asked : Option Asked) (old new : Outside) where
   whole_status status.Trapped f a is w = (a, is, w)
   whole_status status.BadWords f a is w = (a, is, w)
   whole_status status.BadProgram f a is w = (a, is, w)
+  whole_status status.CheckFailed f a is w = (a, is, w)
   whole_status status.BadMachine f a is w = (a, is, w)
   whole_status status.TooBig f a is w = (a, is, w)
   whole_status status.ReadFault f a is w = absurd f
@@ -73,6 +74,8 @@ final_end end.Trapped = tt
 
 final_fault : (f : Fault) → IsWholeStatus (refused_by f)
 final_fault fault.BadWords = tt
+final_fault (fault.BadProgram why) = tt
+final_fault (fault.CheckFailed why) = tt
 final_fault fault.NotBuilt = tt
 final_fault (fault.BadMachine why) = tt
 final_fault (fault.BadPlace length) = tt

@@ -4,8 +4,6 @@ use Rattle.std.specs.FinMap as map
 use Rattle.bs_desk.specs.declared.desk.Port.{Port}
 use Rattle.bs_desk.specs.declared.desk.Port.TheVariants as port
 use Rattle.bs_desk.specs.Outside.{Files}
-use Rattle.bs_lex.specs.declared.token.Token.{Token}
-use Rattle.bs_lex.specs.Lexed.{lexed}
 use Rattle.bs_log.specs.declared.outcome.End.{End}
 use Rattle.bs_log.specs.declared.outcome.End.TheVariants as end
 use Rattle.bs_log.specs.declared.outcome.Outcome.{Outcome}
@@ -14,6 +12,8 @@ use Rattle.bs_machine.specs.Machine.{MachineOf, flat_in, machine_view}
 use Rattle.bs_machine.specs.declared.fault.MachineFault.{MachineFault}
 use Rattle.bs_machine.specs.declared.fitted.Fitted.{Fitted}
 use Rattle.bs_net.specs.Home.{has_length, homes_in}
+use Rattle.bs_parse.specs.Text.{IsFault, Spells}
+use Rattle.bs_parse.specs.declared.text.ParseFault.{ParseFault}
 use Rattle.bs_report.specs.declared.faults.Fault.{Fault}
 use Rattle.bs_report.specs.declared.faults.Fault.TheVariants as fault
 use Rattle.bs_report.specs.End.{end_of}
@@ -21,10 +21,8 @@ use Rattle.bs_report.specs.Fault.{fault_text}
 use Rattle.bs_report.specs.Report.{report_text}
 use Rattle.bs_semantics.specs.Serial.{IsSerial, timed}
 use Rattle.bs_small.specs.declared.form.Small.{Small}
-use Rattle.bs_small.specs.Form.{program_of}
+use Rattle.bs_small.specs.Program.{IsSmallProgram, IsNotSmall}
 use Rattle.bs_small.specs.Machine.{machine_of}
-use Rattle.bs_small.specs.Spelled.{Spells}
-use Rattle.bs_small.specs.Symbols.{symbols}
 use Rattle.bs_tree.specs.declared.tree.Program.{Program}
 use Rattle.bs_top.specs.declared.status.Status.{Status}
 use Rattle.bs_top.specs.declared.status.Status.TheVariants as status
@@ -56,19 +54,15 @@ machine_named files (file name) = do
   bytes ← contents files name
   gives (or_bad_machine (machine_in bytes))
 
--- a text has tokens, and they spell a program of the small form
-pub record IsSmallText (text x e : List ℕ) (s : Small) : Type 0 where
-  pub tokens : List Token
-  pub read : lexed text ≡ Ok tokens
-  pub spells : Spells (symbols text tokens) x e s
-
-abbrev pub IsNoSmallText : List ℕ → Type 0
-IsNoSmallText text = (x e : List ℕ) (s : Small) → IsSmallText text x e s → ⊥
-
--- the program of a text, which so far is one of the small form
+-- the program that a text spells, or its fault
 unfoldable pub program_in : List ℕ → Step Program
-program_in text (Ok p) = (x : List ℕ) × (e : List ℕ) × (s : Small) × IsSmallText text x e s × (p ≡ program_of x e s)
-program_in text (Err stop) = (stop ≡ Refused fault.NotBuilt) × IsNoSmallText text
+program_in text (Ok p) = Spells text p
+program_in text (Err stop) = (why : ParseFault) × IsFault text why × (stop ≡ Refused (fault.BadProgram why))
+
+-- so far programs of the small form are run, and no others
+unfoldable pub is_built : Program → Step (Unit {0})
+is_built p (Ok _) = (s : Small) × IsSmallProgram p s
+is_built p (Err stop) = (stop ≡ Refused fault.NotBuilt) × IsNotSmall p
 
 -- the machine has a processor for each chare
 unfoldable pub fits : ℕ → MachineOf → Step (Unit {0})
@@ -87,20 +81,21 @@ abbrev pub run : Program → MachineOf → Step Said
 run p m (Ok said) = IsReport p m said
 run p m (Err stop) = ⊥
 
--- what comes of a text on a machine
-unfoldable pub simulated : List ℕ → MachineOf → Step Said
-simulated text machine = do
-  program ← program_in text
+-- what comes of a program on a machine
+unfoldable pub simulated : Program → MachineOf → Step Said
+simulated program machine = do
+  _ ← is_built program
   _ ← fits program.chares machine
   run program machine
 
 -- what comes of a command; so it is that words which are none come to a refusal
 unfoldable pub reply_to : Files → Option Asked → Step Said
 reply_to files None = gives (Err (Refused fault.BadWords))
-reply_to files (Some (model program word)) = do
-  text ← contents files program
+reply_to files (Some (model name word)) = do
+  text ← contents files name
+  program ← program_in text
   machine ← machine_named files word
-  simulated text machine
+  simulated program machine
 
 -- ---- what is written
 
@@ -112,6 +107,8 @@ status_of end.Trapped = status.Trapped
 -- the status of a refusal
 abbrev pub refused_by : Fault → Status
 refused_by fault.BadWords = status.BadWords
+refused_by (fault.BadProgram why) = status.BadProgram
+refused_by (fault.CheckFailed why) = status.CheckFailed
 refused_by fault.NotBuilt = status.BadProgram
 refused_by (fault.BadMachine why) = status.BadMachine
 refused_by (fault.BadPlace length) = status.BadMachine

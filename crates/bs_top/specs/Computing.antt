@@ -1,11 +1,12 @@
 -- What the steps between reading and writing come to.
-use Rattle.std.specs.Prelude.{◌≡◌, ℕ, List, Result, Ok, Err}
+use Rattle.std.specs.Prelude.{◌≡◌, Result, Ok, Err}
 use Rattle.bs_report.specs.declared.faults.Fault.{Fault}
-use Rattle.bs_report.specs.declared.faults.Fault.TheVariants.{BadWords, TooBig}
+use Rattle.bs_report.specs.declared.faults.Fault.TheVariants.{BadWords, NotBuilt, TooBig}
+use Rattle.bs_small.specs.Program.{IsNotSmall, IsSmallProgram}
+use Rattle.bs_tree.specs.declared.tree.Program.{Program}
 use Rattle.bs_small.specs.declared.form.Small.{Small}
 use Rattle.bs_top.specs.declared.stop.Stop.{Stop}
 use Rattle.bs_top.specs.declared.stop.Stop.TheVariants.{Refused, NoFile, ReadFault, Memory}
-use Rattle.bs_top.specs.Answer.{IsSmallText, program_in}
 
 abbrev pub IsComputed : Fault → Type 0
 IsComputed BadWords = ⊥
@@ -20,10 +21,10 @@ Computes (Err NoFile) = ⊥
 Computes (Err ReadFault) = ⊥
 Computes (Err Memory) = Unit {0}
 
--- the program of a text, if it is one of the small form
-abbrev pub IsSmallIn : List ℕ → Result Small Stop → Type 0
-IsSmallIn text (Ok s) = (x : List ℕ) × (e : List ℕ) × IsSmallText text x e s
-IsSmallIn text (Err (Refused fault)) = program_in text (Err (Refused fault))
-IsSmallIn text (Err NoFile) = ⊥
-IsSmallIn text (Err ReadFault) = ⊥
-IsSmallIn text (Err Memory) = Unit {0}
+-- what a program holds, if it is of the small form
+abbrev pub IsSmallOf : Program → Result Small Stop → Type 0
+IsSmallOf p (Ok s) = IsSmallProgram p s
+IsSmallOf p (Err (Refused fault)) = (fault ≡ NotBuilt) × IsNotSmall p
+IsSmallOf p (Err NoFile) = ⊥
+IsSmallOf p (Err ReadFault) = ⊥
+IsSmallOf p (Err Memory) = Unit {0}

@@ -65,6 +65,7 @@ Cause asked old new status.Deadlock = ReadsWhole asked new
 Cause asked old new status.Trapped = ReadsWhole asked new
 Cause asked old new status.BadWords = asked ≡ None
 Cause asked old new status.BadProgram = ReadsWhole asked new
+Cause asked old new status.CheckFailed = ReadsWhole asked new
 Cause asked old new status.BadMachine = ReadsWhole asked new
 Cause asked old new status.TooBig = ReadsTooMuch asked new
 Cause asked old new status.ReadFault = FailsToRead asked old new

@@ -65,7 +65,8 @@ fn refused_status(fault: &Fault) -> Status
 {
     match fault {
         Fault::BadWords => Status::BadWords,
-        Fault::NotBuilt => Status::BadProgram,
+        Fault::BadProgram(_) | Fault::NotBuilt => Status::BadProgram,
+        Fault::CheckFailed(_) => Status::CheckFailed,
         Fault::BadMachine(_) | Fault::BadPlace(_) => Status::BadMachine,
         Fault::TooBig(_) => Status::TooBig,
     }

@@ -4,9 +4,9 @@ ghost use Rattle.bs_desk.specs.Outside.{IsReading};
 ghost use Rattle.bs_machine.specs.File.{machine_in};
 ghost use Rattle.bs_machine.specs.Machine.{flat_in, machine_view};
 ghost use Rattle.bs_small.specs.Form.{IsSmall, program_of};
-ghost use Rattle.bs_top.specs.Answer.{IsReport, contents, fits, machine_named, or_bad_machine, reply_to, simulated};
+ghost use Rattle.bs_top.specs.Answer.{IsReport, contents, fits, machine_named, or_bad_machine, program_in, reply_to, simulated};
 ghost use Rattle.bs_top.specs.Causes.{HasRead, StepCause};
-ghost use Rattle.bs_top.specs.Computing.{Computes, IsSmallIn};
+ghost use Rattle.bs_top.specs.Computing.{Computes, IsSmallOf};
 ghost use Rattle.bs_top.specs.Seen.{said_of, word_of};
 ghost use Rattle.bs_top.specs.Step.{Told, gives};
 ghost use Rattle.bs_top.specs.Words.{model as model_asked};
@@ -14,10 +14,11 @@ ghost use Rattle.bs_top.specs.Words.{model as model_asked};
 use crate::asked::MachineWord;
 use crate::stop::{Reply, Stop};
 use bs_desk::{Desk, ReadAllFault, read_all};
-use bs_lex::{LexFault, tokens};
 use bs_machine::{Fitted, Machine, flat, read_machine};
+use bs_parse::parse;
 use bs_report::{Fault, end, report};
-use bs_small::{Small, read, run};
+use bs_small::{Small, run, small_of};
+use bs_tree::Program;
 use std::alloc::{AllocError, Global};
 
 /// How many bytes a file may have.
@@ -73,26 +74,29 @@ fn machine_of_file(alloc: Global, bytes: &[u8]) -> Result<Machine, Stop>
     Ok(read_machine(alloc, bytes)?)
 }
 
-/// Runs a text's program on a machine.
-pub(crate) fn simulate(alloc: Global, text: &[u8], machine: Machine) -> Result<Reply, Stop>
+/// The program that a text spells.
+fn program_of_text(alloc: Global, text: &[u8]) -> Result<Program, Stop>
     ensures kind { Computes result }
-    ensures told { Told said_of (simulated text.now (machine_view machine)) result }
+    ensures told { Told (λ program. program) (program_in text.now) result }
 {
-    let small = small_program(alloc, text)?;
+    Ok(parse(alloc, text)?)
+}
+
+/// Runs a program on a machine.
+fn simulate(alloc: Global, program: &Program, machine: Machine) -> Result<Reply, Stop>
+    ensures kind { Computes result }
+    ensures told { Told said_of (simulated program.now (machine_view machine)) result }
+{
+    let small = small_program(alloc, program)?;
     let fitted = fit(machine, 2)?;
     Ok(report_of(alloc, &small, &fitted)?)
 }
 
-// The program of a text, if it is one of the small form.
-fn small_program(alloc: Global, text: &[u8]) -> Result<Small, Stop>
-    ensures { IsSmallIn text.now result }
+// What a program holds, if it is of the small form.
+fn small_program(alloc: Global, program: &Program) -> Result<Small, Stop>
+    ensures { IsSmallOf program.now result }
 {
-    let tokens = match tokens(alloc, text) {
-        Ok(tokens) => tokens,
-        Err(LexFault::Memory) => return Err(Stop::Memory),
-        Err(_) => return Err(Stop::Refused(Fault::NotBuilt)),
-    };
-    match read(alloc, text, tokens.as_slice())? {
+    match small_of(alloc, program)? {
         Some(small) => Ok(small),
         None => Err(Stop::Refused(Fault::NotBuilt)),
     }
@@ -125,15 +129,16 @@ fn report_of(alloc: Global, small: &Small, fitted: &Fitted) -> Result<Reply, All
 pub(crate) fn model<D: Desk>(
     alloc: Global,
     desk: &mut D,
-    program: &str,
+    name: &str,
     word: MachineWord<'_>,
 ) -> Result<Reply, Stop>
     ensures reading { IsReading (D.world desk.old) (D.world desk.new) }
     ensures later { (D.world desk.old).read_faults ≤ (D.world desk.new).read_faults }
     ensures cause { StepCause (D.world desk.old) (D.world desk.new) result }
-    ensures told { IfSome (D.world desk.old).files (λ files. Told said_of (reply_to files (Some (model_asked program.now (word_of word.entry)))) result) }
+    ensures told { IfSome (D.world desk.old).files (λ files. Told said_of (reply_to files (Some (model_asked name.now (word_of word.entry)))) result) }
 {
-    let text = file(alloc, desk, program)?;
+    let text = file(alloc, desk, name)?;
+    let program = program_of_text(alloc, text.as_slice())?;
     let machine = machine(alloc, desk, word)?;
-    simulate(alloc, text.as_slice(), machine)
+    simulate(alloc, &program, machine)
 }

@@ -1,10 +1,11 @@
 // What comes of a command before anything is written.
 ghost use Rattle.std.specs.Prelude.{◌≡◌};
-ghost use Rattle.bs_top.specs.Stops.{stop_for_machine, stop_for_place, stop_for_words};
+ghost use Rattle.bs_top.specs.Stops.{stop_for_machine, stop_for_place, stop_for_program, stop_for_words};
 ghost use Rattle.bs_top.specs.declared.stop.Stop.TheVariants.{Memory};
 
 use bs_log::End;
 use bs_machine::{MachineFault, PlaceLength};
+use bs_parse::ParseFault;
 use bs_report::Fault;
 use bs_words::WordsFault;
 use std::alloc::AllocError;
@@ -43,6 +44,17 @@ impl From<WordsFault> for Stop {
         match fault {
             WordsFault::BadWords => Stop::Refused(Fault::BadWords),
             WordsFault::Memory => Stop::Memory,
+        }
+    }
+}
+
+impl From<ParseFault> for Stop {
+    ghost from_gives = { λ fault given. given ≡ stop_for_program fault };
+
+    fn from(fault: ParseFault) -> Stop {
+        match fault {
+            ParseFault::Memory => Stop::Memory,
+            _ => Stop::Refused(Fault::BadProgram(fault)),
         }
     }
 }

@@ -172,6 +172,70 @@ fn bad_machines(rt: HostRuntime) -> Result<(), Fail> {
     Ok(())
 }
 
+#[test]
+fn bad_programs(rt: HostRuntime) -> Result<(), Fail> {
+    let words = ["model", "p", "flat:1:1"];
+    let cases = [
+        ("", "bad program: byte 0 unexpected\n"),
+        (
+            "chares 1; body { serial { x = 08; } }",
+            "bad program: byte 30 bad number\n",
+        ),
+        (
+            "chares 1; body { serial { work 1 $ 2; } }",
+            "bad program: byte 33 bad character\n",
+        ),
+        ("chares 1; body { serial { } }", "bad program: not built\n"),
+    ];
+    for (program, line) in &cases {
+        let program = program.as_bytes();
+        expect(&rt, &words, program, b"", Status::BadProgram, "", line)?;
+    }
+    let line = "bad program: byte 0 not utf-8\n";
+    expect(&rt, &words, b"\xff", b"", Status::BadProgram, "", line)
+}
+
+// 64 brackets may be open, and the 65th is too deep.
+#[test]
+fn too_deep(rt: HostRuntime) -> Result<(), Fail> {
+    let mut program = b"chares 1; body ".to_vec(rt.alloc())?;
+    for _ in 0..65 {
+        program.push(b'{')?;
+    }
+    let words = ["model", "p", "flat:1:1"];
+    let line = "bad program: byte 79 too deep\n";
+    expect(
+        &rt,
+        &words,
+        program.as_slice(),
+        b"",
+        Status::BadProgram,
+        "",
+        line,
+    )
+}
+
+// Parentheses leave nothing in the tree.
+#[test]
+fn parentheses(rt: HostRuntime) -> Result<(), Fail> {
+    let program = "chares 2; var x; entry go(1);
+body {
+  serial { work (3); send go[(7)]((this)) to (1 - (this)); }
+  when go[7](x) { serial { work 2; emit ((x)); } }
+}
+";
+    let words = ["model", "p", "flat:2:5"];
+    expect(
+        &rt,
+        &words,
+        program.as_bytes(),
+        b"",
+        Status::Settled,
+        TWO_CHARES_REPORT,
+        "",
+    )
+}
+
 // Of a program and a machine that are both at fault the first in the order of the steps is told.
 #[test]
 fn refusals(rt: HostRuntime) -> Result<(), Fail> {
@@ -179,14 +243,48 @@ fn refusals(rt: HostRuntime) -> Result<(), Fail> {
     let machine = SLOW_BYTES.as_bytes();
     let big = vec![in rt.alloc(); b' '; 1_048_577]?;
     let too_big = "too big: limit 1048576 bytes\n";
-    let not_built = "bad program: not built\n";
+    let missing = "bad machine: missing torus.sizes\n";
     let words = ["model", "p", "m"];
-    expect(&rt, &words, big.as_slice(), machine, Status::TooBig, "", too_big)?;
-    expect(&rt, &words, program, big.as_slice(), Status::TooBig, "", too_big)?;
-    expect(&rt, &words, b"", machine, Status::BadProgram, "", not_built)?;
-    expect(&rt, &words, b"", b"", Status::BadMachine, "", "bad machine: missing torus.sizes\n")?;
-    expect(&rt, &["model", "q", "m"], program, machine, Status::NoFile, "", "")?;
-    expect(&rt, &["model", "p", "n"], b"", machine, Status::NoFile, "", "")
+    expect(
+        &rt,
+        &words,
+        big.as_slice(),
+        machine,
+        Status::TooBig,
+        "",
+        too_big,
+    )?;
+    expect(
+        &rt,
+        &words,
+        program,
+        big.as_slice(),
+        Status::TooBig,
+        "",
+        too_big,
+    )?;
+    let line = "bad program: byte 0 unexpected\n";
+    expect(&rt, &words, b"", b"", Status::BadProgram, "", line)?;
+    let other = b"chares 1; body { serial { } }";
+    expect(&rt, &words, other, b"", Status::BadMachine, "", missing)?;
+    expect(
+        &rt,
+        &["model", "q", "m"],
+        program,
+        machine,
+        Status::NoFile,
+        "",
+        "",
+    )?;
+    expect(
+        &rt,
+        &["model", "p", "n"],
+        program,
+        machine,
+        Status::NoFile,
+        "",
+        "",
+    )
 }
 
 #[test]
@@ -209,7 +307,15 @@ fn bad_words(rt: HostRuntime) -> Result<(), Fail> {
     ];
     for words in &cases {
         let program = TWO_CHARES.as_bytes();
-        expect(&rt, words, program, b"", Status::BadWords, "", "bad words\n")?;
+        expect(
+            &rt,
+            words,
+            program,
+            b"",
+            Status::BadWords,
+            "",
+            "bad words\n",
+        )?;
     }
     Ok(())
 }
@@ -218,7 +324,15 @@ fn bad_words(rt: HostRuntime) -> Result<(), Fail> {
 fn the_greatest_limit(rt: HostRuntime) -> Result<(), Fail> {
     let words = ["model", "--limit", "262144", "p", "flat:2:5"];
     let program = TWO_CHARES.as_bytes();
-    expect(&rt, &words, program, b"", Status::Settled, TWO_CHARES_REPORT, "")
+    expect(
+        &rt,
+        &words,
+        program,
+        b"",
+        Status::Settled,
+        TWO_CHARES_REPORT,
+        "",
+    )
 }
 
 #[test]
@@ -227,6 +341,7 @@ fn codes(rt: HostRuntime) {
     assert_eq!(rt; Status::Deadlock.code(), 3);
     assert_eq!(rt; Status::BadWords.code(), 10);
     assert_eq!(rt; Status::BadProgram.code(), 11);
+    assert_eq!(rt; Status::CheckFailed.code(), 12);
     assert_eq!(rt; Status::BadMachine.code(), 13);
     assert_eq!(rt; Status::TooBig.code(), 18);
     assert_eq!(rt; Status::NoFile.code(), 22);

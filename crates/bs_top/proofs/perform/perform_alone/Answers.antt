@@ -10,15 +10,15 @@ returns-in-Ok-clause-told g c =
     let old = g.D.Desk.world c.args.desk.now in
     let asked = asked_by (map string_bytes c.args.words.now) in
     each old.files old.files _ _ refl (λ files h.
-      said_report files asked old (g.D.Desk.world c.reply.new.desk) (g.D.Desk.world c.say.new.desk) c.say.result c.status_of.result (said_of c.in-Ok.reply) c.as_slice.result.now
-      c.in-Ok.ensures.reading h c.status_of.ensures c.as_slice.ensures.value c.say.ensures) c.in-Ok.ensures.told
+    said_report files asked old (g.D.Desk.world c.reply.new.desk) (g.D.Desk.world c.say.new.desk) c.say.result c.status_of.result (said_of c.in-Ok.reply) c.as_slice.result.now
+    c.in-Ok.ensures.reading h c.status_of.ensures c.as_slice.ensures.value c.say.ensures) c.in-Ok.ensures.told
 
 pub returns-in-Err-Refused-clause-told : goal.returns-in-Err-Refused-clause-told
 returns-in-Err-Refused-clause-told g c =
     let old = g.D.Desk.world c.args.desk.now in
     let asked = asked_by (map string_bytes c.args.words.now) in
     each old.files old.files _ _ refl (λ files h.
-      said_refusal files asked old (g.D.Desk.world c.reply.new.desk) (g.D.Desk.world c.refuse.new.desk) c.refuse.result c.in-Err-Refused.fault c.in-Err-Refused.ensures.reading h c.refuse.ensures)
+    said_refusal files asked old (g.D.Desk.world c.reply.new.desk) (g.D.Desk.world c.refuse.new.desk) c.refuse.result c.in-Err-Refused.fault c.in-Err-Refused.ensures.reading h c.refuse.ensures)
     (rw c.in-Err-Refused.field-0-is at c.in-Err-Refused.ensures.told)
 
 pub returns-in-Err-NoFile-clause-told : goal.returns-in-Err-NoFile-clause-told

@@ -16,8 +16,8 @@ pub returns-in_err-command-clause-told : goal.returns-in_err-command-clause-told
 returns-in_err-command-clause-told g c =
     let words = map string_bytes c.args.words.now in
     always (g.D.Desk.world c.args.desk.now).files (λ files.
-      at_stop (Told said_of (reply_to files (asked_by words))) (stop_for_words c.in_err-command.field-0.0) c.from_residual.result c.from_residual.ensures.1
-      (bad_words files (command_in words) c.in_err-command.field-0.0 c.in_err-command.ensures.err))
+    at_stop (Told said_of (reply_to files (asked_by words))) (stop_for_words c.in_err-command.field-0.0) c.from_residual.result c.from_residual.ensures.1
+    (bad_words files (command_in words) c.in_err-command.field-0.0 c.in_err-command.ensures.err))
 
 pub returns-in-Some-clause-told : goal.returns-in-Some-clause-told
 returns-in-Some-clause-told g c =

@@ -1,6 +1,6 @@
 use Rattle.std.proofs.Common.{◌↔◌, length}
 use Rattle.bs_small.specs.Form.{Distinct}
-use Rattle.bs_small.proofs.reader.is_each_once.Given as goal
+use Rattle.bs_small.proofs.shape.is_each_once.Given as goal
 
 -- those that were looked up stand nowhere behind them
 abbrev pub invariant-loop-rest : goal.invariant-loop-rest

@@ -2,8 +2,8 @@ use Rattle.std.proofs.lemmas.Bool.Decides.{Decides-at}
 use Rattle.std.specs.List.{list_any}
 use Rattle.std.specs.Ordering.{int_eq}
 use Rattle.bs_small.specs.Form.{IsIn}
-use Rattle.bs_small.proofs.ReadSymbols.{IsIn-decides}
-use Rattle.bs_small.proofs.reader.holds.Goals as goal
+use Rattle.bs_small.proofs.References.{IsIn-decides}
+use Rattle.bs_small.proofs.shape.holds.Goals as goal
 
 pub returns : goal.returns
 returns c =
