@@ -1,10 +1,83 @@
 -- The line that a refusal writes.
-use Rattle.std.specs.Prelude.{ℕ, List, ◌++◌, codes}
+use Rattle.std.specs.Prelude.{ℕ, List, [], ◌++◌, codes}
 use Rattle.std.specs.Fmt.{decimal}
+use Rattle.bs_check.specs.declared.fault.CheckFault.{CheckFault}
+use Rattle.bs_check.specs.declared.fault.CheckFault.TheVariants as check
+use Rattle.bs_check.specs.declared.fault.Rule.{Rule}
+use Rattle.bs_check.specs.declared.fault.Rule.TheVariants.{UnknownName, TwiceDeclared, Arity, Interference, IdleLoop, Limits}
+use Rattle.bs_lex.specs.declared.token.LexFault.{LexFault}
+use Rattle.bs_lex.specs.declared.token.LexFault.TheVariants as lex
+use Rattle.bs_parse.specs.declared.text.ParseFault.{ParseFault}
+use Rattle.bs_parse.specs.declared.text.ParseFault.TheVariants as parse
+use Rattle.bs_machine.specs.Keys.{table_of, name_of}
+use Rattle.bs_machine.specs.declared.fault.MachineFault.{MachineFault}
+use Rattle.bs_machine.specs.declared.fault.MachineFault.TheVariants.{NotToml, UnknownKey, Missing, OutOfRange, Memory}
+use Rattle.bs_machine.specs.declared.fitted.PlaceLength.{PlaceLength}
+use Rattle.bs_machine.specs.declared.key.MachineKey.{MachineKey}
 use Rattle.bs_report.specs.declared.faults.Fault.{Fault}
-use Rattle.bs_report.specs.declared.faults.Fault.TheVariants.{BadWords, NotBuilt, TooBig}
+use Rattle.bs_report.specs.declared.faults.Fault.TheVariants.{BadWords, BadProgram, CheckFailed, NotBuilt, BadMachine, BadPlace, TooBig}
+
+-- the place is a byte of the text, counted from 0
+abbrev pub program_line : ℕ → List ℕ → List ℕ
+program_line byte why = codes "bad program: byte " ++ (decimal byte ++ (codes " " ++ (why ++ codes "\n")))
+
+abbrev pub lex_text : LexFault → List ℕ
+lex_text (lex.NotUtf8 byte) = program_line byte (codes "not utf-8")
+lex_text (lex.BadCharacter byte) = program_line byte (codes "bad character")
+lex_text (lex.BadNumber byte) = program_line byte (codes "bad number")
+lex_text lex.Memory = []
+
+-- want of memory has no line
+abbrev pub parse_text : ParseFault → List ℕ
+parse_text (parse.Lex fault) = lex_text fault
+parse_text (parse.Unexpected byte kind) = program_line byte (codes "unexpected")
+parse_text (parse.TooDeep byte) = program_line byte (codes "too deep")
+parse_text (parse.TooManyStatements byte) = program_line byte (codes "too many statements")
+parse_text parse.Memory = []
+
+-- statements are counted from 1, and 0 stands for the declarations
+abbrev pub check_line : ℕ → List ℕ → List ℕ
+check_line stmt why = codes "check failed: stmt " ++ (decimal stmt ++ (codes " " ++ (why ++ codes "\n")))
+
+-- the variable and the two parts are counted from 0
+abbrev pub interference_line : ℕ → ℕ → ℕ → ℕ → List ℕ
+interference_line stmt variable first second =
+    codes "check failed: stmt " ++ (decimal stmt ++ (codes " interference var " ++ (decimal variable
+    ++ (codes " parts " ++ (decimal first ++ (codes " " ++ (decimal second ++ codes "\n")))))))
+
+abbrev pub rule_text : ℕ → Rule → List ℕ
+rule_text stmt UnknownName = check_line stmt (codes "unknown name")
+rule_text stmt TwiceDeclared = check_line stmt (codes "declared twice")
+rule_text stmt Arity = check_line stmt (codes "arity")
+rule_text stmt (Interference variable first second) = interference_line stmt variable first second
+rule_text stmt IdleLoop = check_line stmt (codes "idle loop")
+rule_text stmt Limits = check_line stmt (codes "limits")
+
+-- want of memory has no line
+abbrev pub check_text : CheckFault → List ℕ
+check_text (check.Refused stmt rule) = rule_text stmt rule
+check_text check.Memory = []
+
+-- a key with its table, as `torus.sizes`
+abbrev pub key_text : MachineKey → List ℕ
+key_text key = table_of key ++ codes "." ++ name_of key
+
+-- want of memory has no line
+abbrev pub machine_text : MachineFault → List ℕ
+machine_text NotToml = codes "bad machine: not toml\n"
+machine_text UnknownKey = codes "bad machine: unknown key\n"
+machine_text (Missing key) = codes "bad machine: missing " ++ key_text key ++ codes "\n"
+machine_text (OutOfRange key given) = codes "bad machine: out of range " ++ key_text key ++ codes "\n"
+machine_text Memory = []
+
+abbrev pub place_text : PlaceLength → List ℕ
+place_text length = codes "bad machine: place length " ++ (decimal length.given ++ (codes " needs " ++ (decimal length.needed ++ codes "\n")))
 
 abbrev pub fault_text : Fault → List ℕ
 fault_text BadWords = codes "bad words\n"
+fault_text (BadProgram fault) = parse_text fault
+fault_text (CheckFailed fault) = check_text fault
 fault_text NotBuilt = codes "bad program: not built\n"
+fault_text (BadMachine fault) = machine_text fault
+fault_text (BadPlace length) = place_text length
 fault_text (TooBig limit) = codes "too big: limit " ++ decimal limit ++ codes " bytes\n"

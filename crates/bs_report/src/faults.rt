@@ -1,7 +1,11 @@
 // Why a command is refused, and the line that says so.
 ghost use Rattle.std.specs.Prelude.{◌≡◌, IfOk};
-ghost use Rattle.bs_report.specs.Fault.{fault_text};
+ghost use Rattle.bs_report.specs.Fault.{check_line, check_text, fault_text, interference_line, machine_text, parse_text, place_text, program_line as program_line_of};
 
+use bs_check::{CheckFault, Rule};
+use bs_lex::LexFault;
+use bs_machine::{MachineFault, PlaceLength};
+use bs_parse::ParseFault;
 use std::alloc::{AllocError, Global};
 
 /// Why a command is refused.
@@ -9,8 +13,16 @@ use std::alloc::{AllocError, Global};
 pub enum Fault {
     /// The words of the command line are no command.
     BadWords,
+    /// The text is no program. Want of memory has no line, and never stands here.
+    BadProgram(ParseFault),
+    /// The program breaks a rule of the language. Want of memory has no line, and never stands here.
+    CheckFailed(CheckFault),
     /// The program is none of those that can be run yet.
     NotBuilt,
+    /// The machine's file is no machine. Want of memory has no line, and never stands here.
+    BadMachine(MachineFault),
+    /// The machine's list of homes has another length than there are chares.
+    BadPlace(PlaceLength),
     /// A file has more bytes than this limit.
     TooBig(u64),
 }
@@ -21,10 +33,102 @@ pub fn fault_line(alloc: Global, fault: &Fault) -> Result<Vec<u8>, AllocError>
 {
     match fault {
         Fault::BadWords => b"bad words\n".to_vec(alloc),
+        Fault::BadProgram(fault) => parse_line(alloc, *fault),
+        Fault::CheckFailed(fault) => check_failed_line(alloc, *fault),
         Fault::NotBuilt => b"bad program: not built\n".to_vec(alloc),
+        Fault::BadMachine(fault) => machine_line(alloc, *fault),
+        Fault::BadPlace(length) => place_line(alloc, *length),
         Fault::TooBig(limit) => {
             let line = format!(in alloc; "too big: limit {limit} bytes\n")?;
             Ok(line.into_bytes())
         }
     }
+}
+
+fn parse_line(alloc: Global, fault: ParseFault) -> Result<Vec<u8>, AllocError>
+    ensures { IfOk result (λ line. line.items ≡ parse_text fault) }
+{
+    match fault {
+        ParseFault::Lex(LexFault::NotUtf8(byte)) => program_line(alloc, byte, "not utf-8"),
+        ParseFault::Lex(LexFault::BadCharacter(byte)) => program_line(alloc, byte, "bad character"),
+        ParseFault::Lex(LexFault::BadNumber(byte)) => program_line(alloc, byte, "bad number"),
+        ParseFault::Unexpected(byte, _) => program_line(alloc, byte, "unexpected"),
+        ParseFault::TooDeep(byte) => program_line(alloc, byte, "too deep"),
+        ParseFault::TooManyStatements(byte) => program_line(alloc, byte, "too many statements"),
+        ParseFault::Lex(LexFault::Memory) | ParseFault::Memory => Ok(Vec::new(alloc)),
+    }
+}
+
+fn program_line(alloc: Global, byte: u64, why: &str) -> Result<Vec<u8>, AllocError>
+    ensures { IfOk result (λ line. line.items ≡ program_line_of byte why.now) }
+{
+    let line = format!(in alloc; "bad program: byte {byte} {why}\n")?;
+    Ok(line.into_bytes())
+}
+
+fn check_failed_line(alloc: Global, fault: CheckFault) -> Result<Vec<u8>, AllocError>
+    ensures { IfOk result (λ line. line.items ≡ check_text fault) }
+{
+    match fault {
+        CheckFault::Refused(stmt, Rule::UnknownName) => rule_line(alloc, stmt, "unknown name"),
+        CheckFault::Refused(stmt, Rule::TwiceDeclared) => rule_line(alloc, stmt, "declared twice"),
+        CheckFault::Refused(stmt, Rule::Arity) => rule_line(alloc, stmt, "arity"),
+        CheckFault::Refused(stmt, Rule::Interference(variable, first, second)) => {
+            parts_line(alloc, stmt, variable, first, second)
+        }
+        CheckFault::Refused(stmt, Rule::IdleLoop) => rule_line(alloc, stmt, "idle loop"),
+        CheckFault::Refused(stmt, Rule::Limits) => rule_line(alloc, stmt, "limits"),
+        CheckFault::Memory => Ok(Vec::new(alloc)),
+    }
+}
+
+fn rule_line(alloc: Global, stmt: u32, why: &str) -> Result<Vec<u8>, AllocError>
+    ensures { IfOk result (λ line. line.items ≡ check_line stmt why.now) }
+{
+    let line = format!(in alloc; "check failed: stmt {stmt} {why}\n")?;
+    Ok(line.into_bytes())
+}
+
+fn parts_line(
+    alloc: Global,
+    stmt: u32,
+    variable: u32,
+    first: u32,
+    second: u32,
+) -> Result<Vec<u8>, AllocError>
+    ensures { IfOk result (λ line. line.items ≡ interference_line stmt variable first second) }
+{
+    let line = format!(in alloc;
+        "check failed: stmt {stmt} interference var {variable} parts {first} {second}\n"
+    )?;
+    Ok(line.into_bytes())
+}
+
+fn machine_line(alloc: Global, fault: MachineFault) -> Result<Vec<u8>, AllocError>
+    ensures { IfOk result (λ line. line.items ≡ machine_text fault) }
+{
+    let line = match fault {
+        MachineFault::NotToml => format!(in alloc; "bad machine: not toml\n")?,
+        MachineFault::UnknownKey => format!(in alloc; "bad machine: unknown key\n")?,
+        MachineFault::Missing(key) => {
+            format!(in alloc; "bad machine: missing {}.{}\n", key.table(), key.name())?
+        }
+        MachineFault::OutOfRange(key, _) => {
+            format!(in alloc;
+                "bad machine: out of range {}.{}\n",
+                key.table(),
+                key.name()
+            )?
+        }
+        MachineFault::Memory => String::new(alloc),
+    };
+    Ok(line.into_bytes())
+}
+
+fn place_line(alloc: Global, length: PlaceLength) -> Result<Vec<u8>, AllocError>
+    ensures { IfOk result (λ line. line.items ≡ place_text length) }
+{
+    let PlaceLength { given, needed } = length;
+    let line = format!(in alloc; "bad machine: place length {given} needs {needed}\n")?;
+    Ok(line.into_bytes())
 }

@@ -3,7 +3,11 @@ ghost use Rattle.std.specs.Prelude.{IsTrue, ◌↔◌};
 ghost use Rattle.bs_report.specs.Report.{IsTimed};
 
 use crate::{Fault, end, fault_line, report};
+use bs_check::{CheckFault, Rule};
+use bs_lex::{LexFault, TokenKind};
 use bs_log::{End, Key, OutRow, Outcome, TrapKind, TrapRow, WaitRow};
+use bs_machine::{MachineFault, MachineKey, PlaceLength};
+use bs_parse::ParseFault;
 use bs_tree::List;
 use std::alloc::{AllocError, Global};
 use std::process::Abort;
@@ -244,11 +248,80 @@ span 0
     expect(&rt, &outcome, End::Trapped, want)
 }
 
+fn refused(stmt: u32, rule: Rule) -> Fault {
+    Fault::CheckFailed(CheckFault::Refused(stmt, rule))
+}
+
 #[test]
 fn fault_lines(rt: HostRuntime) -> Result<(), Fail> {
     let cases = [
         (Fault::BadWords, "bad words\n"),
         (Fault::NotBuilt, "bad program: not built\n"),
+        (
+            Fault::BadProgram(ParseFault::Lex(LexFault::NotUtf8(0))),
+            "bad program: byte 0 not utf-8\n",
+        ),
+        (
+            Fault::BadProgram(ParseFault::Lex(LexFault::BadCharacter(7))),
+            "bad program: byte 7 bad character\n",
+        ),
+        (
+            Fault::BadProgram(ParseFault::Lex(LexFault::BadNumber(30))),
+            "bad program: byte 30 bad number\n",
+        ),
+        (
+            Fault::BadProgram(ParseFault::Unexpected(0, TokenKind::End)),
+            "bad program: byte 0 unexpected\n",
+        ),
+        (
+            Fault::BadProgram(ParseFault::TooDeep(79)),
+            "bad program: byte 79 too deep\n",
+        ),
+        (
+            Fault::BadProgram(ParseFault::TooManyStatements(8)),
+            "bad program: byte 8 too many statements\n",
+        ),
+        (
+            refused(1, Rule::UnknownName),
+            "check failed: stmt 1 unknown name\n",
+        ),
+        (
+            refused(0, Rule::TwiceDeclared),
+            "check failed: stmt 0 declared twice\n",
+        ),
+        (refused(2, Rule::Arity), "check failed: stmt 2 arity\n"),
+        (
+            refused(1, Rule::Interference(0, 0, 1)),
+            "check failed: stmt 1 interference var 0 parts 0 1\n",
+        ),
+        (
+            refused(1, Rule::IdleLoop),
+            "check failed: stmt 1 idle loop\n",
+        ),
+        (refused(0, Rule::Limits), "check failed: stmt 0 limits\n"),
+        (
+            Fault::BadMachine(MachineFault::NotToml),
+            "bad machine: not toml\n",
+        ),
+        (
+            Fault::BadMachine(MachineFault::UnknownKey),
+            "bad machine: unknown key\n",
+        ),
+        (
+            Fault::BadMachine(MachineFault::Missing(MachineKey::TorusSizes)),
+            "bad machine: missing torus.sizes\n",
+        ),
+        (
+            Fault::BadMachine(MachineFault::OutOfRange(MachineKey::LatencyBase, Some(0))),
+            "bad machine: out of range latency.base\n",
+        ),
+        (
+            Fault::BadPlace(PlaceLength {
+                given: 2,
+                needed: 3,
+            }),
+            "bad machine: place length 2 needs 3\n",
+        ),
         (Fault::TooBig(1_048_576), "too big: limit 1048576 bytes\n"),
     ];
     for (fault, want) in &cases {

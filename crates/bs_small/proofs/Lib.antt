@@ -7,4 +7,5 @@ mod SmallChain
 mod SmallBegin
 mod SmallEnds
 mod SmallTimes
-pub mod ReadSymbols
+mod References
+mod Shapes

@@ -1,8 +1,6 @@
 pub mod Form
-pub mod Reading
-pub mod Seen
-pub mod Spelled
-pub mod Symbols
+pub mod Program
+pub mod Shape
 pub mod Blocks
 pub mod Machine
 pub mod Times

@@ -1,15 +1,7 @@
--- The flat machine: chares go round its processors, each message takes one latency, and a cost unit is a tick
--- (docs/model.md).
-use Rattle.std.specs.Prelude.{ℕ, ◌%◌}
+-- A fitted machine as the serial machine model sees it (docs/model.md).
+use Rattle.bs_machine.specs.declared.fitted.Fitted.{Fitted}
+use Rattle.bs_machine.specs.Fitted.{home_of, latency_of, duration_of}
 use Rattle.bs_semantics.specs.Serial.{Machine}
-use Rattle.bs_small.specs.declared.flat.Flat.{Flat}
 
-abbrev pub flat : ℕ → ℕ → Machine
-flat processors latency = record {
-  home = λ c. c % processors;
-  latency = λ from to bytes. latency;
-  duration = λ cost. cost;
-}
-
-abbrev pub machine_of : Flat → Machine
-machine_of f = flat f.processors f.latency
+unfoldable pub machine_of : Fitted → Machine
+machine_of m = record { home = home_of m; latency = latency_of m; duration = duration_of m }

@@ -1,16 +1,13 @@
 //! The small form of program that `model` takes so far: two chares that send to one another. It is
-//! read from the tokens of a text, and run on a machine.
+//! told from other programs by its tree, and run on a machine.
 //!
 //! `docs/program-text.md` says what the small form is.
 #![tactic(auto)]
 
-mod flat;
 mod form;
-pub mod laws;
 mod model;
-mod reader;
+mod shape;
 
-pub use flat::Flat;
 pub use form::{Given, Small, SmallAct};
 pub use model::{Sending, Starts, run};
-pub use reader::read;
+pub use shape::small_of;

@@ -1,15 +1,15 @@
 // Runs a program of the small form on a machine.
-ghost use Rattle.std.specs.Prelude.{◌≡◌, ◌∷◌, [], ◌≤◌, ◌+◌, ◌*◌, ◌^◌, ℕ, List as PlainList, IfOk, IfSome, None, Some, length};
+ghost use Rattle.std.specs.Prelude.{◌≡◌, ◌∷◌, [], ◌<◌, ◌≤◌, ◌+◌, ◌*◌, ◌^◌, ℕ, List as PlainList, IfOk, IfSome, None, Some, length};
 ghost use Rattle.bs_report.specs.Report.{IsReportable, IsTimed};
 ghost use Rattle.bs_semantics.specs.Serial.{IsSerial, timed};
-ghost use Rattle.bs_small.specs.Form.{IsSmall, program_of};
+ghost use Rattle.bs_small.specs.Form.{AreSmallActs, IsSmall, program_of};
 ghost use Rattle.bs_small.specs.Machine.{machine_of};
 ghost use Rattle.bs_small.specs.Blocks.{cost_after, sending as sending_of, value, values};
 ghost use Rattle.bs_small.specs.Times.{first_row as first_row_of, first_starts as first_starts_of, outcome_if, outcome_of, second_row as second_row_of, second_starts as second_starts_of, wait_row as wait_row_of};
 
-use crate::flat::Flat;
 use crate::form::{Given, Small, SmallAct};
 use bs_log::{Key, OutRow, Outcome, WaitRow};
+use bs_machine::Fitted;
 use bs_tree::List;
 use std::alloc::{AllocError, Global};
 
@@ -29,17 +29,18 @@ pub struct Starts {
 
 /// The outcome of a program of the small form on a machine: what the serial machine model gives,
 /// whatever the two names of the program are. Only memory can be wanting.
-pub fn run(alloc: Global, small: &Small, machine: &Flat) -> Result<Outcome, AllocError>
-    requires { IsSmall small.now }
+pub fn run(alloc: Global, small: &Small, machine: &Fitted) -> Result<Outcome, AllocError>
+    requires small { IsSmall small.now }
+    requires chares { machine.now.chares ≡ 2 }
     ensures reportable { IfOk result IsReportable }
     ensures serial { IfOk result (λ o. (x e : PlainList ℕ) → IsSerial (program_of x e small.now) 262144 (machine_of machine.now) (timed o)) }
 {
     outcome(alloc, small, machine)
 }
 
-fn outcome(alloc: Global, small: &Small, machine: &Flat) -> Result<Outcome, AllocError>
-    requires first { length small.now.first ≤ 100 }
-    requires second { length small.now.second ≤ 100 }
+fn outcome(alloc: Global, small: &Small, machine: &Fitted) -> Result<Outcome, AllocError>
+    requires small { IsSmall small.now }
+    requires chares { machine.now.chares ≡ 2 }
     ensures value { IfOk result (λ o. o ≡ outcome_of (machine_of machine.now) small.now) }
     ensures reportable { IfOk result IsReportable }
 {
@@ -50,8 +51,9 @@ fn outcome(alloc: Global, small: &Small, machine: &Flat) -> Result<Outcome, Allo
 }
 
 // Both chares wait behind their first blocks.
-fn waiting(alloc: Global, small: &Small, machine: &Flat) -> Result<Outcome, AllocError>
-    requires { length small.now.first ≤ 100 }
+fn waiting(alloc: Global, small: &Small, machine: &Fitted) -> Result<Outcome, AllocError>
+    requires small { IsSmall small.now }
+    requires chares { machine.now.chares ≡ 2 }
     ensures value { IfOk result (λ o. o ≡ outcome_if (machine_of machine.now) small.now None) }
     ensures reportable { IfOk result IsReportable }
 {
@@ -73,12 +75,12 @@ fn waiting(alloc: Global, small: &Small, machine: &Flat) -> Result<Outcome, Allo
 fn settled(
     alloc: Global,
     small: &Small,
-    machine: &Flat,
+    machine: &Fitted,
     sent: &Sending,
 ) -> Result<Outcome, AllocError>
-    requires first { length small.now.first ≤ 100 }
-    requires second { length small.now.second ≤ 100 }
-    requires early { sent.now.offset ≤ 2 ^ 40 }
+    requires small { IsSmall small.now }
+    requires chares { machine.now.chares ≡ 2 }
+    requires early { (1 ≤ sent.now.offset) × (sent.now.offset ≤ 2 ^ 32) }
     ensures value { IfOk result (λ o. o ≡ outcome_if (machine_of machine.now) small.now (Some sent.now)) }
     ensures reportable { IfOk result IsReportable }
 {
@@ -118,36 +120,71 @@ fn in_order(
     Ok(rows)
 }
 
+// ---- what the machine says
+
+// The processor of a chare.
+fn home(machine: &Fitted, chare: u32) -> u32
+    requires chares { machine.now.chares ≡ 2 }
+    requires chare { chare < 2 }
+    ensures { result ≡ (machine_of machine.now).home chare }
+{
+    machine.home(chare)
+}
+
+// The ticks of a block of this cost.
+fn ticks(machine: &Fitted, cost: u64) -> u64
+    requires { (1 ≤ cost) × (cost ≤ 2 ^ 32) }
+    ensures value { result ≡ (machine_of machine.now).duration cost }
+    ensures least { 1 ≤ result }
+    ensures most { result < 2 ^ 48 }
+{
+    machine.duration(cost)
+}
+
+// The ticks of a message of one argument from one chare to another.
+fn way(machine: &Fitted, from: u32, to: u32) -> u64
+    requires chares { machine.now.chares ≡ 2 }
+    requires from { from < 2 }
+    requires to { to < 2 }
+    ensures value { result ≡ (machine_of machine.now).latency ((machine_of machine.now).home from) ((machine_of machine.now).home to) 8 }
+    ensures most { result < 2 ^ 40 }
+{
+    machine.latency(machine.home(from), machine.home(to), 8)
+}
+
 // ---- when blocks start
 
 ghost use Rattle.bs_small.specs.Times.{first_time as first_time_of, ready_one, ready_zero, second_time as second_time_of};
 
-fn first_time(small: &Small, machine: &Flat) -> u64
-    requires { length small.now.first ≤ 100 }
+fn first_time(small: &Small, machine: &Fitted) -> u64
+    requires small { IsSmall small.now }
+    requires chares { machine.now.chares ≡ 2 }
     ensures value { result ≡ first_time_of (machine_of machine.now) small.now }
     ensures least { 1 ≤ result }
-    ensures most { result ≤ 2 ^ 40 }
+    ensures most { result < 2 ^ 48 }
 {
-    machine.duration(cost(small.first.as_slice()))
+    ticks(machine, cost(small.first.as_slice()))
 }
 
-fn second_time(small: &Small, machine: &Flat) -> u64
-    requires { length small.now.second ≤ 100 }
+fn second_time(small: &Small, machine: &Fitted) -> u64
+    requires small { IsSmall small.now }
+    requires chares { machine.now.chares ≡ 2 }
     ensures value { result ≡ second_time_of (machine_of machine.now) small.now }
     ensures least { 1 ≤ result }
-    ensures most { result ≤ 2 ^ 40 }
+    ensures most { result < 2 ^ 48 }
 {
-    machine.duration(cost(small.second.as_slice()))
+    ticks(machine, cost(small.second.as_slice()))
 }
 
 // On one processor the block of chare 1 begins where that of chare 0 ends.
-fn first_starts(small: &Small, machine: &Flat) -> Starts
-    requires { length small.now.first ≤ 100 }
+fn first_starts(small: &Small, machine: &Fitted) -> Starts
+    requires small { IsSmall small.now }
+    requires chares { machine.now.chares ≡ 2 }
     ensures value { result ≡ first_starts_of (machine_of machine.now) small.now }
     ensures zero { result.zero ≡ 0 }
-    ensures most { result.one ≤ 2 ^ 40 }
+    ensures most { result.one < 2 ^ 48 }
 {
-    let one = if machine.home(0) == machine.home(1) {
+    let one = if home(machine, 0) == home(machine, 1) {
         u128::from(first_time(small, machine))
     } else {
         0
@@ -156,20 +193,20 @@ fn first_starts(small: &Small, machine: &Flat) -> Starts
 }
 
 // When the second block of each chare is ready: behind its own first block and the message.
-fn ready(small: &Small, machine: &Flat, sent: &Sending) -> Starts
-    requires first { length small.now.first ≤ 100 }
-    requires early { sent.now.offset ≤ 2 ^ 40 }
+fn ready(small: &Small, machine: &Fitted, sent: &Sending) -> Starts
+    requires small { IsSmall small.now }
+    requires chares { machine.now.chares ≡ 2 }
+    requires early { (1 ≤ sent.now.offset) × (sent.now.offset ≤ 2 ^ 32) }
     ensures zero { result.zero ≡ ready_zero (machine_of machine.now) small.now sent.now }
     ensures one { result.one ≡ ready_one (machine_of machine.now) small.now sent.now }
-    ensures most_zero { result.zero ≤ 2 ^ 42 }
-    ensures most_one { result.one ≤ 2 ^ 42 }
+    ensures most_zero { result.zero ≤ 2 ^ 50 }
+    ensures most_one { result.one ≤ 2 ^ 50 }
 {
     let first = first_starts(small, machine);
     let time = u128::from(first_time(small, machine));
-    let left = u128::from(machine.duration(sent.offset));
-    let (zero, one) = (machine.home(0), machine.home(1));
-    let to_zero = u128::from(machine.latency(one, zero, 8));
-    let to_one = u128::from(machine.latency(zero, one, 8));
+    let left = u128::from(ticks(machine, sent.offset));
+    let to_zero = u128::from(way(machine, 1, 0));
+    let to_one = u128::from(way(machine, 0, 1));
     Starts {
         zero: (first.zero + time).max(first.one + left + to_zero),
         one: (first.one + time).max(first.zero + left + to_one),
@@ -177,18 +214,18 @@ fn ready(small: &Small, machine: &Flat, sent: &Sending) -> Starts
 }
 
 // On one processor the block that is ready first goes first, and that of chare 0 on a tie.
-fn second_starts(small: &Small, machine: &Flat, sent: &Sending) -> Starts
-    requires first { length small.now.first ≤ 100 }
-    requires second { length small.now.second ≤ 100 }
-    requires early { sent.now.offset ≤ 2 ^ 40 }
+fn second_starts(small: &Small, machine: &Fitted, sent: &Sending) -> Starts
+    requires small { IsSmall small.now }
+    requires chares { machine.now.chares ≡ 2 }
+    requires early { (1 ≤ sent.now.offset) × (sent.now.offset ≤ 2 ^ 32) }
     ensures value { result ≡ second_starts_of (machine_of machine.now) small.now sent.now }
-    ensures most_zero { result.zero ≤ 2 ^ 44 }
-    ensures most_one { result.one ≤ 2 ^ 44 }
+    ensures most_zero { result.zero ≤ 2 ^ 52 }
+    ensures most_one { result.one ≤ 2 ^ 52 }
 {
     let first = first_starts(small, machine);
     let time = u128::from(first_time(small, machine));
     let ready = ready(small, machine, sent);
-    if machine.home(0) != machine.home(1) {
+    if home(machine, 0) != home(machine, 1) {
         Starts {
             zero: ready.zero.max(first.zero + time),
             one: ready.one.max(first.one + time),
@@ -213,19 +250,21 @@ fn second_starts(small: &Small, machine: &Flat, sent: &Sending) -> Starts
 fn first_row(
     alloc: Global,
     small: &Small,
-    machine: &Flat,
+    machine: &Fitted,
     chare: u32,
     start: u128,
 ) -> Result<OutRow, AllocError>
-    requires few { length small.now.first ≤ 100 }
-    requires early { start ≤ 2 ^ 44 }
+    requires small { IsSmall small.now }
+    requires chares { machine.now.chares ≡ 2 }
+    requires chare { chare < 2 }
+    requires early { start ≤ 2 ^ 52 }
     ensures value { IfOk result (λ row. row ≡ first_row_of (machine_of machine.now) small.now chare start) }
     ensures timed { IfOk result IsTimed }
 {
     Ok(OutRow {
         chare,
         stmt: 1,
-        processor: machine.home(chare),
+        processor: home(machine, chare),
         start,
         end: start + u128::from(first_time(small, machine)),
         values: emitted(alloc, small.first.as_slice(), chare, 0)?,
@@ -235,20 +274,22 @@ fn first_row(
 fn second_row(
     alloc: Global,
     small: &Small,
-    machine: &Flat,
+    machine: &Fitted,
     chare: u32,
     variable: i64,
     start: u128,
 ) -> Result<OutRow, AllocError>
-    requires few { length small.now.second ≤ 100 }
-    requires early { start ≤ 2 ^ 44 }
+    requires small { IsSmall small.now }
+    requires chares { machine.now.chares ≡ 2 }
+    requires chare { chare < 2 }
+    requires early { start ≤ 2 ^ 52 }
     ensures value { IfOk result (λ row. row ≡ second_row_of (machine_of machine.now) small.now chare variable start) }
     ensures timed { IfOk result IsTimed }
 {
     Ok(OutRow {
         chare,
         stmt: 3,
-        processor: machine.home(chare),
+        processor: home(machine, chare),
         start,
         end: start + u128::from(second_time(small, machine)),
         values: emitted(alloc, small.second.as_slice(), chare, variable)?,
@@ -283,10 +324,10 @@ fn given(given: Given, chare: u32, variable: i64) -> i64
 
 // The cost of a block of these acts.
 fn cost(acts: &[SmallAct]) -> u64
-    requires { length acts.now ≤ 100 }
+    requires few { length acts.now ≤ 100 }
+    requires small { AreSmallActs acts.now }
     ensures value { result ≡ cost_after 1 acts.now }
-    ensures least { 1 ≤ result }
-    ensures most { result ≤ 1 + 100 * 2 ^ 32 }
+    ensures range { (1 ≤ result) × (result ≤ 2 ^ 32) }
 {
     let mut cost = 1;
     for act in acts {
@@ -316,9 +357,10 @@ fn emitted(
 
 // What is sent with a reference number.
 fn find_sending(acts: &[SmallAct], reference: i64) -> Option<Sending>
-    requires { length acts.now ≤ 100 }
+    requires few { length acts.now ≤ 100 }
+    requires small { AreSmallActs acts.now }
     ensures value { result ≡ sending_of 1 reference acts.now }
-    ensures early { IfSome result (λ sent. sent.offset ≤ 2 ^ 40) }
+    ensures early { IfSome result (λ sent. (1 ≤ sent.offset) × (sent.offset ≤ 2 ^ 32)) }
 {
     let mut cost = 1;
     for act in acts {

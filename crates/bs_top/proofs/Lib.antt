@@ -1,5 +1,10 @@
-mod Lengths
-mod Texts
+mod Stages
 mod Kept
+mod Reading
+mod Machines
+mod Simulating
+mod Replying
 mod Told
+mod OneStep
+mod OneMachine
 mod OneAnswer

@@ -1,73 +1,81 @@
--- A command has one answer: its file has one text, a text spells one program, and a program has one outcome.
-use Rattle.std.proofs.Common.{◌≡◌, ◌≤◌, ◌<◌, ℕ, List, length, refl, sym, ap, subst, arith, Option, Some, None}
-use Rattle.bs_tree.specs.declared.tree.Program.{Program}
-use Rattle.bs_tree.specs.Symbol.{Symbol}
+-- A command has one answer: each of its steps gives one thing at most.
+use Rattle.std.proofs.Common.{◌≡◌, ℕ, List, refl, sym, ap, ◌∙◌, subst, Option, Some, None, Ok, Err, Result}
+use Rattle.std.specs.FinMap as map
 use Rattle.bs_desk.specs.Outside.{Files}
-use Rattle.bs_desk.specs.declared.desk.Port.TheVariants as port
 use Rattle.bs_log.specs.declared.outcome.Outcome.{Outcome}
+use Rattle.bs_machine.specs.File.{machine_in}
+use Rattle.bs_machine.specs.Machine.{MachineOf, flat_in}
+use Rattle.bs_parse.specs.TextLaws.{OneProgram, OneFault, NotBoth}
+use Rattle.bs_report.specs.declared.faults.Fault.TheVariants as fault
 use Rattle.bs_report.specs.End.{end_of}
 use Rattle.bs_report.specs.Report.{report_text}
 use Rattle.bs_semantics.specs.Serial.{IsSerial, Machine, Simulated, timed}
-use Rattle.bs_small.specs.declared.form.Small.{Small}
-use Rattle.bs_small.specs.Form.{program_of}
-use Rattle.bs_small.specs.Machine.{flat}
-use Rattle.bs_small.specs.Spelled.{Spells}
-use Rattle.bs_small.specs.Symbols.{symbols}
-use Rattle.bs_top.specs.Words.{Asked}
-use Rattle.bs_top.specs.Answer.{Answer, IsAnswer, IsSmallText, bad_words, no_file, too_big, not_built, ran, size_limit, status_of}
-use Rattle.bs_top.proofs.Texts.{one_list}
-
-abbrev pub OneReading : Type 0
-OneReading = (said : List Symbol) (x y e f : List ℕ) (s t : Small) → Spells said x e s → Spells said y f t → (x ≡ y) × (e ≡ f) × (s ≡ t)
+use Rattle.bs_small.specs.Machine.{machine_of}
+use Rattle.bs_tree.specs.declared.tree.Program.{Program}
+use Rattle.bs_top.specs.declared.stop.Stop.TheVariants.{Refused}
+use Rattle.bs_top.specs.Answer.{Answer, IsAnswer, IsReport, answer_of, contents, fits, is_built, machine_named, or_bad_machine, program_in, reply_to, run, simulated, whole}
+use Rattle.bs_top.specs.Step.{Said, and_then, gives}
+use Rattle.bs_top.specs.Words.{Asked, model, MachineWord, flat, file, size_limit}
+use Rattle.bs_top.proofs.OneMachine.{one_machine}
+use Rattle.bs_top.proofs.OneStep.{IsOne, one_after, one_given}
 
 abbrev pub OneSerial : Type 0
 OneSerial = (p : Program) (limit : ℕ) (m : Machine) (r s : Simulated) → IsSerial p limit m r → IsSerial p limit m s → r ≡ s
 
-text_is : {A : Type 0} {x y : A} {o : Option A} → o ≡ Some x → o ≡ Some y → x ≡ y
-text_is a b = cc
+one_contents : (files : Files) (name : List ℕ) → IsOne (contents files name)
+unfolding contents
+one_contents files name = one_given (whole (map.get files name))
 
-none_some : {A B : Type 0} {x : A} {o : Option A} → o ≡ None → o ≡ Some x → B
-none_some a b = absurd (cc)
+one_named : (files : Files) (word : MachineWord) → IsOne (machine_named files word)
+unfolding machine_named
+one_named files (flat processors latency) = one_given (or_bad_machine (flat_in processors latency))
+one_named files (file name) = one_after (contents files name) (λ bytes. gives (or_bad_machine (machine_in bytes))) (one_contents files name) (λ bytes. one_given (or_bad_machine (machine_in bytes)))
+
+one_fit : (chares : ℕ) (m : MachineOf) → IsOne (fits chares m)
+unfolding fits
+one_fit chares m r s a b = sym a ∙ b
 
 outcome_is : (o q : Outcome) → timed o ≡ timed q → o ≡ q
 outcome_is o q e = cc
 
-too_long : {A : Type 0} (text other : List ℕ) (limit : ℕ) → text ≡ other → limit < length text → length other ≤ limit → A
-too_long text other limit e l k = let f = ap length e in absurd (omega (arith, l, k, f))
+one_built : (p : Program) → IsOne (is_built p)
+unfolding is_built
+one_built p (Ok a) (Ok b) h k = refl
+one_built p (Ok a) (Err s) h k = absurd (k.1 h.0 h.1)
+one_built p (Err r) (Ok b) h k = absurd (h.1 k.0 k.1)
+one_built p (Err r) (Err s) h k = ap (λ t. Err t) (h.0 ∙ sym k.0)
 
-module _ (reading : OneReading) (serial : OneSerial) where
-  abbrev report_of : Outcome → Answer
-  report_of o = record { status = status_of (end_of o); port = port.Out; text = report_text o }
+module _ (program : OneProgram) (fault_is : OneFault) (not_both : NotBoth) (serial : OneSerial) where
+  one_program : (text : List ℕ) → IsOne (program_in text)
+  unfolding program_in
+  one_program text (Ok p) (Ok q) h k = ap (λ r. Ok r) (program text p q h k)
+  one_program text (Ok p) (Err s) h k = absurd (not_both text p k.0 h k.1)
+  one_program text (Err r) (Ok q) h k = absurd (not_both text q h.0 k h.1)
+  one_program text (Err r) (Err s) h k = ap (λ t. Err t) (h.2 ∙ ap (λ f. Refused (fault.BadProgram f)) (fault_is text h.0 k.0 h.1 k.1) ∙ sym k.2)
 
-  same_program : (text x y e f : List ℕ) (s t : Small) → IsSmallText text x e s → IsSmallText text y f t → (x ≡ y) × (e ≡ f) × (s ≡ t)
-  same_program text x y e f s t a b =
-      reading (symbols text a.tokens) x y e f s t a.spells (subst (λ ts. Spells (symbols text ts) y f t) (one_list text b.tokens a.tokens b.read a.read) b.spells)
+  same_outcome : (p : Program) (m : MachineOf) (a b : Said) (h : IsReport p m a) (k : IsReport p m b) → h.outcome ≡ k.outcome
+  same_outcome p m a b h k =
+      let machine = one_machine k.fitted h.fitted (k.is_machine ∙ sym h.is_machine) (k.is_fitted ∙ sym h.is_fitted) in
+      outcome_is h.outcome k.outcome (serial p size_limit (machine_of h.fitted) (timed h.outcome) (timed k.outcome) h.is_outcome (subst (λ m. IsSerial p size_limit m (timed k.outcome)) machine k.is_outcome))
 
-  same_outcome : (text x y e f : List ℕ) (s t : Small) (o q : Outcome) (m : Machine) → IsSmallText text x e s → IsSmallText text y f t
-      → IsSerial (program_of x e s) size_limit m (timed o) → IsSerial (program_of y f t) size_limit m (timed q) → o ≡ q
-  same_outcome text x y e f s t o q m a b first second =
-      let same = same_program text x y e f s t a b in
-      outcome_is o q (serial (program_of x e s) size_limit m (timed o) (timed q) first
-      (subst (λ k. IsSerial (program_of k e s) size_limit m (timed q)) (sym same.0)
-      (subst (λ k. IsSerial (program_of y k s) size_limit m (timed q)) (sym same.1)
-      (subst (λ k. IsSerial (program_of y f k) size_limit m (timed q)) (sym same.2) second))))
+  one_run : (p : Program) (m : MachineOf) → IsOne (run p m)
+  one_run p m (Ok a) (Ok b) h k =
+      ap (λ s. Ok s) (h.is_said ∙ ap (λ (o : Outcome). record { end = end_of o; text = report_text o }) (same_outcome p m a b h k) ∙ sym k.is_said)
+  one_run p m (Ok a) (Err s) h k = absurd k
+  one_run p m (Err r) s h k = absurd h
+
+  one_simulated : (p : Program) (m : MachineOf) → IsOne (simulated p m)
+  unfolding simulated
+  one_simulated p m = one_after (is_built p) (λ _. and_then (fits p.chares m) (λ _. run p m)) (one_built p)
+      (λ _. one_after (fits p.chares m) (λ _. run p m) (one_fit p.chares m) (λ _. one_run p m))
+
+  one_reply : (files : Files) (asked : Option Asked) → IsOne (reply_to files asked)
+  unfolding reply_to
+  one_reply files None = one_given (Err (Refused fault.BadWords))
+  one_reply files (Some (model name word)) =
+      one_after (contents files name) (λ text. and_then (program_in text) (λ p. and_then (machine_named files word) (λ m. simulated p m))) (one_contents files name)
+      (λ text. one_after (program_in text) (λ p. and_then (machine_named files word) (λ m. simulated p m)) (one_program text)
+      (λ p. one_after (machine_named files word) (λ m. simulated p m) (one_named files word) (λ m. one_simulated p m)))
 
   pub one : (files : Files) (asked : Option Asked) (a b : Answer) → IsAnswer files asked a → IsAnswer files asked b → a ≡ b
-  one files _ _ _ bad_words bad_words = refl
-  one files _ _ _ (no_file k none) (no_file _ _) = refl
-  one files _ _ _ (no_file k none) (too_big _ t get _) = none_some none get
-  one files _ _ _ (no_file k none) (not_built _ t get _ _) = none_some none get
-  one files _ _ _ (no_file k none) (ran _ t x e s o get _ _ _) = none_some none get
-  one files _ _ _ (too_big k t get l) (no_file _ none) = none_some none get
-  one files _ _ _ (too_big k t get l) (too_big _ _ _ _) = refl
-  one files _ _ _ (too_big k t get l) (not_built _ u got w _) = too_long t u _ (text_is get got) l w
-  one files _ _ _ (too_big k t get l) (ran _ u x e s o got w _ _) = too_long t u _ (text_is get got) l w
-  one files _ _ _ (not_built k t get l none) (no_file _ gone) = none_some gone get
-  one files _ _ _ (not_built k t get l none) (too_big _ u got w) = too_long u t _ (text_is got get) w l
-  one files _ _ _ (not_built k t get l none) (not_built _ _ _ _ _) = refl
-  one files _ _ _ (not_built k t get l none) (ran _ u x e s o got w is _) = absurd (none x e s (subst (λ v. IsSmallText v x e s) (text_is got get) is))
-  one files _ _ _ (ran k t x e s o get l is _) (no_file _ gone) = none_some gone get
-  one files _ _ _ (ran k t x e s o get l is _) (too_big _ u got w) = too_long u t _ (text_is got get) w l
-  one files _ _ _ (ran k t x e s o get l is _) (not_built _ u got w none) = absurd (none x e s (subst (λ v. IsSmallText v x e s) (text_is get got) is))
-  one files _ _ _ (ran k t x e s o get l is first) (ran _ u y f v q got w also second) =
-      ap report_of (same_outcome t x y e f s v o q (flat k.processors k.latency) is (subst (λ z. IsSmallText z y f v) (text_is got get) also) first second)
+  one files asked a b h k = h.is_answer ∙ ap answer_of (one_reply files asked h.reply k.reply h.is_reply k.is_reply) ∙ sym k.is_answer

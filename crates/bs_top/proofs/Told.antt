@@ -1,25 +1,23 @@
--- Each way through a command gives the answer that its definition gives.
-use Rattle.std.proofs.Common.{◌≡◌, ◌≤◌, ℕ, List, [], length, take, refl, sym, ap, ◌∙◌, subst, inl, inr, Option, Some, None}
+-- What was written is the answer that its definition gives.
+use Rattle.std.proofs.Common.{◌≡◌, ◌≤◌, ℕ, List, [], length, take, refl, sym, ap, ◌∙◌, subst, inl, inr, Option, Some, None, Result, Ok, Err}
 use Rattle.std.specs.Prelude.{◌⊎◌, IfSome, IsTrue}
-use Rattle.std.specs.FinMap as map
 use Rattle.bs_desk.specs.declared.desk.Port.TheVariants as port
-use Rattle.bs_desk.specs.Outside.{Outside, Files, IsReading, Misses, Rose, written}
-use Rattle.bs_desk.specs.Whole.{IsWhole, IsTooBig}
+use Rattle.bs_desk.specs.Outside.{Outside, Files, IsReading, Rose, written}
 use Rattle.bs_log.specs.declared.outcome.End.{End}
 use Rattle.bs_log.specs.declared.outcome.End.TheVariants as end
 use Rattle.bs_report.specs.declared.faults.Fault.{Fault}
 use Rattle.bs_report.specs.declared.faults.Fault.TheVariants as fault
-use Rattle.bs_report.specs.End.{end_of}
 use Rattle.bs_report.specs.Fault.{fault_text}
-use Rattle.bs_small.specs.declared.flat.Flat.{Flat}
 use Rattle.bs_top.specs.declared.status.Status.{Status}
 use Rattle.bs_top.specs.declared.status.Status.TheVariants as status
+use Rattle.bs_top.specs.declared.stop.Stop.{Stop}
+use Rattle.bs_top.specs.declared.stop.Stop.TheVariants as stop
 use Rattle.bs_top.specs.Words.{Asked}
-use Rattle.bs_top.specs.Answer.{Answer, IsAnswer, bad_words, no_file, too_big, not_built, ran, refused, status_of, program_limit}
-use Rattle.bs_top.specs.Performs.{Answers, WritesFront, WritesAnswer}
-use Rattle.bs_top.specs.Steps.{IsAnswerTo, IsReport, Says, IsCutOff, Refuses, Replies, GivesAnswer}
-use Rattle.bs_top.specs.Steps as steps
+use Rattle.bs_top.specs.Step.{Said}
+use Rattle.bs_top.specs.Answer.{Answer, IsAnswer, answer_of, refused, refused_by, reply_to, status_of}
+use Rattle.bs_top.specs.Performs.{Answers, WritesFront, WritesAnswer, Says, IsCutOff, Refuses}
 use Rattle.bs_top.proofs.Kept.{kept_after, kept_reading, kept_silent}
+use Rattle.bs_top.proofs.Stages.{each}
 
 -- a status that comes with an answer's whole text
 abbrev IsWholeStatus : Status → Type 0
@@ -35,6 +33,8 @@ module _ (files : Files) (asked : Option Asked) (old new : Outside) where
   whole_status status.Trapped f a is w = (a, is, w)
   whole_status status.BadWords f a is w = (a, is, w)
   whole_status status.BadProgram f a is w = (a, is, w)
+  whole_status status.CheckFailed f a is w = (a, is, w)
+  whole_status status.BadMachine f a is w = (a, is, w)
   whole_status status.TooBig f a is w = (a, is, w)
   whole_status status.ReadFault f a is w = absurd f
   whole_status status.WriteFault f a is w = absurd f
@@ -63,62 +63,36 @@ module _ (files : Files) (asked : Option Asked) (old new : Outside) where
   })
   says mid s a final r is (inr cut) = cut_off mid s a r is cut
 
-  refuses : (mid : Outside) (s : Status) (f : Fault) (wanted : Status) → IsWholeStatus wanted → IsReading old mid → IsAnswer files asked (refused wanted (fault_text f)) → Refuses f wanted mid new s → Answers files asked old new s
-  refuses mid s f wanted final r is (inl memory) = wanting mid s r memory.0 memory.1
-  refuses mid s f wanted final r is (inr says') = says mid s (refused wanted (fault_text f)) final r is says'
+  refuses : (mid : Outside) (s : Status) (f : Fault) → IsWholeStatus (refused_by f) → IsReading old mid → IsAnswer files asked (refused f) → Refuses f mid new s → Answers files asked old new s
+  refuses mid s f final r is (inl memory) = wanting mid s r memory.0 memory.1
+  refuses mid s f final r is (inr says') = says mid s (refused f) final r is says'
 
 final_end : (e : End) → IsWholeStatus (status_of e)
 final_end end.Settled = tt
 final_end end.Deadlock = tt
 final_end end.Trapped = tt
 
--- where files are told, by what they are
-told : (old : Outside) (P : Files → Type 0) → ((files : Files) → old.files ≡ Some files → P files) → IfSome old.files P
-told old P f = go old.files refl
-  where
-    go : (o : Option Files) → old.files ≡ o → IfSome o P
-    go None e = tt
-    go (Some files) e = f files e
+final_fault : (f : Fault) → IsWholeStatus (refused_by f)
+final_fault fault.BadWords = tt
+final_fault (fault.BadProgram why) = tt
+final_fault (fault.CheckFailed why) = tt
+final_fault fault.NotBuilt = tt
+final_fault (fault.BadMachine why) = tt
+final_fault (fault.BadPlace length) = tt
+final_fault (fault.TooBig limit) = tt
 
-if_told : (o : Option Files) (files : Files) (P : Files → Type 0) → o ≡ Some files → IfSome o P → P files
-if_told o files P e h = subst (λ q. IfSome q P) e h
+module _ (files : Files) (asked : Option Asked) where
+  answers : (reply : Result Said Stop) → reply_to files asked reply → IsAnswer files asked (answer_of reply)
+  answers reply is = record { reply = reply; is_reply = is; is_answer = refl }
 
-module _ (program : List ℕ) (machine : Flat) (old : Outside) where
-  abbrev asked_is : Asked
-  asked_is = record { program = program; processors = machine.processors; latency = machine.latency }
+  pub said_report : (old mid new : Outside) (s wanted : Status) (said : Said) (bytes : List ℕ) → IsReading old mid → reply_to files asked (Ok said) → wanted ≡ status_of said.end → bytes ≡ said.text
+      → Says port.Out bytes wanted mid new s → Answers files asked old new s
+  said_report old mid new s wanted said bytes r is status_is bytes_are says' =
+      says files asked old new mid s (answer_of (Ok said)) (final_end said.end) r (answers (Ok said) is)
+      (subst (λ b. Says port.Out b (status_of said.end) mid new s) bytes_are (subst (λ w. Says port.Out bytes w mid new s) status_is says'))
 
-  -- what is answered to the text is what is answered to the command
-  answer_to : (files : Files) (text : List ℕ) → map.get files program ≡ Some text → length text ≤ program_limit → (a : Answer) → IsAnswerTo text machine a → IsAnswer files (Some asked_is) a × IsWholeStatus a.status
-  answer_to files text get within _ (steps.not_built none) = (not_built asked_is text get within none, tt)
-  answer_to files text get within _ (steps.reported s bytes is) = (
-    subst (λ t. IsAnswer files (Some asked_is) (record { status = t; port = port.Out; text = bytes })) (sym is.is_status)
-        (subst (λ b. IsAnswer files (Some asked_is) (record { status = status_of (end_of is.outcome); port = port.Out; text = b })) (sym is.is_report)
-        (ran asked_is text is.variable is.entry is.small is.outcome get within is.is_text is.is_outcome)),
-    subst IsWholeStatus (sym is.is_status) (final_end (end_of is.outcome)),
-  )
+  pub said_refusal : (old mid new : Outside) (s : Status) (f : Fault) → IsReading old mid → reply_to files asked (Err (stop.Refused f)) → Refuses f mid new s → Answers files asked old new s
+  said_refusal old mid new s f r is refuses' = refuses files asked old new mid s f (final_fault f) r (answers (Err (stop.Refused f)) is) refuses'
 
-  pub told_whole : (mid new : Outside) (text : List ℕ) (s : Status) → IsReading old mid → IsWhole program program_limit old mid text → Replies text machine mid new s
-      → IfSome old.files (λ files. Answers files (Some asked_is) old new s)
-  told_whole mid new text s r is replies = told old (λ files. Answers files (Some asked_is) old new s) (λ files e. by_reply files (if_told old.files files _ e is.told).0 replies)
-    where
-      by_reply : (files : Files) → map.get files program ≡ Some text → Replies text machine mid new s → Answers files (Some asked_is) old new s
-      by_reply files get (inl memory) = wanting files (Some asked_is) old new mid s r memory.0 memory.1
-      by_reply files get (inr gives) =
-          let known = answer_to files text get is.within gives.answer gives.is_answer in
-          says files (Some asked_is) old new mid s gives.answer known.1 r known.0 gives.says
-
-  pub told_missing : (new : Outside) → IsReading old new → Misses program old new → IfSome old.files (λ files. Answers files (Some asked_is) old new status.NoFile)
-  told_missing new r is = told old (λ files. Answers files (Some asked_is) old new status.NoFile) (λ files e.
-      (refused status.NoFile [], no_file asked_is (if_told old.files files _ e is.told), record { status = refl; kept = kept_silent old new r }))
-
-  pub told_too_big : (mid new : Outside) (limit : ℕ) (s : Status) → IsReading old mid → IsTooBig program program_limit limit old mid → Refuses (fault.TooBig limit) status.TooBig mid new s
-      → IfSome old.files (λ files. Answers files (Some asked_is) old new s)
-  told_too_big mid new limit s r is refuses' = told old (λ files. Answers files (Some asked_is) old new s) (λ files e.
-      let big = if_told old.files files _ e is.told in
-      refuses files (Some asked_is) old new mid s (fault.TooBig program_limit) status.TooBig tt r (too_big asked_is big.0 big.1 big.2)
-      (subst (λ l. Refuses (fault.TooBig l) status.TooBig mid new s) is.given refuses'))
-
-pub told_bad_words : (old new : Outside) (asked : Option Asked) (s : Status) → None ≡ asked → Refuses fault.BadWords status.BadWords old new s → IfSome old.files (λ files. Answers files asked old new s)
-told_bad_words old new asked s none refuses' = told old (λ files. Answers files asked old new s) (λ files e.
-    subst (λ q. Answers files q old new s) none
-    (refuses files None old new old s fault.BadWords status.BadWords tt refl bad_words refuses'))
+  pub said_nothing : (old new : Outside) → IsReading old new → reply_to files asked (Err stop.NoFile) → Answers files asked old new status.NoFile
+  said_nothing old new r is = (answer_of (Err stop.NoFile), answers (Err stop.NoFile) is, record { status = refl; kept = kept_silent old new r })

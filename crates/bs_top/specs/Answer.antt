@@ -1,49 +1,118 @@
 -- What a command answers, by the contents of the files (docs/output.md).
-use Rattle.std.specs.Prelude.{◌≡◌, ◌≤◌, ◌<◌, ℕ, List, [], length, Option, Some, None, Ok}
+use Rattle.std.specs.Prelude.{◌≡◌, ℕ, nat_le, List, [], length, Option, Some, None, Result, Ok, Err, if◌then◌else◌}
 use Rattle.std.specs.FinMap as map
 use Rattle.bs_desk.specs.declared.desk.Port.{Port}
 use Rattle.bs_desk.specs.declared.desk.Port.TheVariants as port
 use Rattle.bs_desk.specs.Outside.{Files}
-use Rattle.bs_lex.specs.declared.token.Token.{Token}
-use Rattle.bs_lex.specs.Lexed.{lexed}
 use Rattle.bs_log.specs.declared.outcome.End.{End}
 use Rattle.bs_log.specs.declared.outcome.End.TheVariants as end
 use Rattle.bs_log.specs.declared.outcome.Outcome.{Outcome}
+use Rattle.bs_machine.specs.File.{machine_in}
+use Rattle.bs_machine.specs.Machine.{MachineOf, flat_in, machine_view}
+use Rattle.bs_machine.specs.declared.fault.MachineFault.{MachineFault}
+use Rattle.bs_machine.specs.declared.fitted.Fitted.{Fitted}
+use Rattle.bs_net.specs.Home.{has_length, homes_in}
+use Rattle.bs_parse.specs.Text.{IsFault, Spells}
+use Rattle.bs_parse.specs.declared.text.ParseFault.{ParseFault}
+use Rattle.bs_report.specs.declared.faults.Fault.{Fault}
 use Rattle.bs_report.specs.declared.faults.Fault.TheVariants as fault
 use Rattle.bs_report.specs.End.{end_of}
 use Rattle.bs_report.specs.Fault.{fault_text}
 use Rattle.bs_report.specs.Report.{report_text}
 use Rattle.bs_semantics.specs.Serial.{IsSerial, timed}
 use Rattle.bs_small.specs.declared.form.Small.{Small}
-use Rattle.bs_small.specs.Form.{program_of}
-use Rattle.bs_small.specs.Machine.{flat}
-use Rattle.bs_small.specs.Spelled.{Spells}
-use Rattle.bs_small.specs.Symbols.{symbols}
+use Rattle.bs_small.specs.Program.{IsSmallProgram, IsNotSmall}
+use Rattle.bs_small.specs.Machine.{machine_of}
+use Rattle.bs_tree.specs.declared.tree.Program.{Program}
 use Rattle.bs_top.specs.declared.status.Status.{Status}
 use Rattle.bs_top.specs.declared.status.Status.TheVariants as status
-use Rattle.bs_top.specs.Words.{Asked}
+use Rattle.bs_top.specs.declared.stop.Stop.{Stop}
+use Rattle.bs_top.specs.declared.stop.Stop.TheVariants.{Refused, NoFile, ReadFault, Memory}
+use Rattle.bs_top.specs.Step.{Step, Said, gives, ◌>>=◌}
+use Rattle.bs_top.specs.Words.{Asked, model, MachineWord, flat, file, size_limit}
 
--- a text has tokens, and they spell a program of the small form
-pub record IsSmallText (text x e : List ℕ) (s : Small) : Type 0 where
-  pub tokens : List Token
-  pub read : lexed text ≡ Ok tokens
-  pub spells : Spells (symbols text tokens) x e s
+-- a file has at most this many bytes
+abbrev pub file_limit : ℕ
+file_limit = 1048576
 
-abbrev pub IsNoSmallText : List ℕ → Type 0
-IsNoSmallText text = (x e : List ℕ) (s : Small) → IsSmallText text x e s → ⊥
+abbrev pub whole : Option (List ℕ) → Result (List ℕ) Stop
+whole None = Err NoFile
+whole (Some bytes) = if nat_le (length bytes) file_limit then Ok bytes else Err (Refused (fault.TooBig file_limit))
 
--- a program has at most this many bytes
-abbrev pub program_limit : ℕ
-program_limit = 1048576
+-- the contents of the file of that name
+unfoldable pub contents : Files → List ℕ → Step (List ℕ)
+contents files name = gives (whole (map.get files name))
 
--- the size of a run is at most this
-abbrev pub size_limit : ℕ
-size_limit = 262144
+abbrev pub or_bad_machine : Result MachineOf MachineFault → Result MachineOf Stop
+or_bad_machine (Ok m) = Ok m
+or_bad_machine (Err why) = Err (Refused (fault.BadMachine why))
+
+-- the machine of a word
+unfoldable pub machine_named : Files → MachineWord → Step MachineOf
+machine_named files (flat processors latency) = gives (or_bad_machine (flat_in processors latency))
+machine_named files (file name) = do
+  bytes ← contents files name
+  gives (or_bad_machine (machine_in bytes))
+
+-- the program that a text spells, or its fault
+unfoldable pub program_in : List ℕ → Step Program
+program_in text (Ok p) = Spells text p
+program_in text (Err stop) = (why : ParseFault) × IsFault text why × (stop ≡ Refused (fault.BadProgram why))
+
+-- so far programs of the small form are run, and no others
+unfoldable pub is_built : Program → Step (Unit {0})
+is_built p (Ok _) = (s : Small) × IsSmallProgram p s
+is_built p (Err stop) = (stop ≡ Refused fault.NotBuilt) × IsNotSmall p
+
+-- the machine has a processor for each chare
+unfoldable pub fits : ℕ → MachineOf → Step (Unit {0})
+fits chares m = gives (if has_length m.place chares then Ok tt else Err (Refused (fault.BadPlace (record { given = homes_in m.place; needed = chares }))))
+
+-- the report of an outcome that the serial machine model gives
+pub record IsReport (p : Program) (m : MachineOf) (said : Said) : Type 0 where
+  pub fitted : Fitted
+  pub outcome : Outcome
+  pub is_machine : machine_view fitted.machine ≡ m
+  pub is_fitted : fitted.chares ≡ p.chares
+  pub is_outcome : IsSerial p size_limit (machine_of fitted) (timed outcome)
+  pub is_said : said ≡ record { end = end_of outcome; text = report_text outcome }
+
+abbrev pub run : Program → MachineOf → Step Said
+run p m (Ok said) = IsReport p m said
+run p m (Err stop) = ⊥
+
+-- what comes of a program on a machine
+unfoldable pub simulated : Program → MachineOf → Step Said
+simulated program machine = do
+  _ ← is_built program
+  _ ← fits program.chares machine
+  run program machine
+
+-- what comes of a command; so it is that words which are none come to a refusal
+unfoldable pub reply_to : Files → Option Asked → Step Said
+reply_to files None = gives (Err (Refused fault.BadWords))
+reply_to files (Some (model name word)) = do
+  text ← contents files name
+  program ← program_in text
+  machine ← machine_named files word
+  simulated program machine
+
+-- ---- what is written
 
 abbrev pub status_of : End → Status
 status_of end.Settled = status.Settled
 status_of end.Deadlock = status.Deadlock
 status_of end.Trapped = status.Trapped
+
+-- the status of a refusal
+abbrev pub refused_by : Fault → Status
+refused_by fault.BadWords = status.BadWords
+refused_by (fault.BadProgram why) = status.BadProgram
+refused_by (fault.CheckFailed why) = status.CheckFailed
+refused_by fault.NotBuilt = status.BadProgram
+refused_by (fault.BadMachine why) = status.BadMachine
+refused_by (fault.BadPlace length) = status.BadMachine
+refused_by (fault.TooBig limit) = status.TooBig
 
 -- a status, and the one text that is written to a port
 pub record Answer : Type 0 where
@@ -51,14 +120,22 @@ pub record Answer : Type 0 where
   pub port : Port
   pub text : List ℕ
 
-abbrev pub refused : Status → List ℕ → Answer
-refused s line = record { status = s; port = port.Err; text = line }
+abbrev pub refused : Fault → Answer
+refused why = record { status = refused_by why; port = port.Err; text = fault_text why }
+
+abbrev pub silent : Status → Answer
+silent s = record { status = s; port = port.Err; text = [] }
+
+-- a reply goes to standard output, and the line of a refusal to standard error
+abbrev pub answer_of : Result Said Stop → Answer
+answer_of (Ok said) = record { status = status_of said.end; port = port.Out; text = said.text }
+answer_of (Err (Refused why)) = refused why
+answer_of (Err NoFile) = silent status.NoFile
+answer_of (Err ReadFault) = silent status.ReadFault
+answer_of (Err Memory) = silent status.Memory
 
 -- what is answered to a command, or to words that are none, where the files hold these contents
-pub data IsAnswer (files : Files) : Option Asked → Answer → Type 0 where
-  bad_words : IsAnswer files None (refused status.BadWords (fault_text fault.BadWords))
-  no_file : (a : Asked) → map.get files a.program ≡ None → IsAnswer files (Some a) (refused status.NoFile [])
-  too_big : (a : Asked) (text : List ℕ) → map.get files a.program ≡ Some text → program_limit < length text → IsAnswer files (Some a) (refused status.TooBig (fault_text (fault.TooBig program_limit)))
-  not_built : (a : Asked) (text : List ℕ) → map.get files a.program ≡ Some text → length text ≤ program_limit → IsNoSmallText text → IsAnswer files (Some a) (refused status.BadProgram (fault_text fault.NotBuilt))
-  ran : (a : Asked) (text x e : List ℕ) (s : Small) (o : Outcome) → map.get files a.program ≡ Some text → length text ≤ program_limit → IsSmallText text x e s
-      → IsSerial (program_of x e s) size_limit (flat a.processors a.latency) (timed o) → IsAnswer files (Some a) (record { status = status_of (end_of o); port = port.Out; text = report_text o })
+pub record IsAnswer (files : Files) (asked : Option Asked) (answer : Answer) : Type 0 where
+  pub reply : Result Said Stop
+  pub is_reply : reply_to files asked reply
+  pub is_answer : answer ≡ answer_of reply

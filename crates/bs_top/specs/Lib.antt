@@ -1,6 +1,9 @@
 pub mod Codes
 pub mod Words
+pub mod Stops
+pub mod Step
 pub mod Seen
 pub mod Answer
+pub mod Computing
+pub mod Causes
 pub mod Performs
-pub mod Steps

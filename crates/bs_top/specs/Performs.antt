@@ -1,26 +1,45 @@
 -- What performing a command does to the outside (docs/promises.md).
-use Rattle.std.specs.Prelude.{◌≡◌, ◌≤◌, ◌+◌, ◌⊎◌, ℕ, true, false, IsTrue, length, take, Option, None, IsSome}
+use Rattle.std.specs.Prelude.{◌≡◌, ◌≤◌, ◌+◌, ◌⊎◌, ℕ, true, false, IsTrue, List, length, take, Option, None, IsSome}
+use Rattle.bs_desk.specs.declared.desk.Port.{Port}
+use Rattle.bs_desk.specs.declared.desk.Port.TheVariants as port
 use Rattle.bs_desk.specs.Outside.{Outside, Files, Rose, written}
+use Rattle.bs_report.specs.declared.faults.Fault.{Fault}
+use Rattle.bs_report.specs.Fault.{fault_text}
 use Rattle.bs_top.specs.declared.status.Status.{Status}
 use Rattle.bs_top.specs.declared.status.Status.TheVariants as status
 use Rattle.bs_top.specs.Words.{Asked}
-use Rattle.bs_top.specs.Answer.{Answer, IsAnswer, program_limit}
+use Rattle.bs_top.specs.Answer.{Answer, IsAnswer, file_limit, refused_by}
+
+-- a front of n bytes was written, and then the desk refused
+pub record IsCutOff (port : Port) (text : List ℕ) (old new : Outside) (s : Status) : Type 0 where
+  pub count : ℕ
+  pub within : count ≤ length text
+  pub same : new ≡ record (written port (take count text) old) { write_faults = new.write_faults }
+  pub cause : (s ≡ status.Memory) ⊎ ((s ≡ status.WriteFault) × IsTrue old.can_fail × Rose old.write_faults new.write_faults)
+
+-- the text is written, and the status is the one that was handed in; or a front of it
+abbrev pub Says : Port → List ℕ → Status → Outside → Outside → Status → Type 0
+Says port text wanted old new s = ((s ≡ wanted) × (new ≡ written port text old)) ⊎ IsCutOff port text old new s
+
+-- the same for the line of a refusal; or memory was wanting for the line
+abbrev pub Refuses : Fault → Outside → Outside → Status → Type 0
+Refuses f old new s = ((s ≡ status.Memory) × (new ≡ old)) ⊎ Says port.Err (fault_text f) (refused_by f) old new s
 
 -- all but what reading and refusals change
 abbrev pub Keeps : Outside → Outside → Type 0
 Keeps old new = new ≡ record old { rest = new.rest; is_open = new.is_open; found = new.found; taken = new.taken; read_faults = new.read_faults; write_faults = new.write_faults }
 
--- the file of the program was found, and no more than the limit was read of it
+-- the last file that was asked for was found, and no more than the limit was read of it
 pub record ReadsWhole (asked : Option Asked) (new : Outside) : Type 0 where
   pub command : IsSome asked
   pub found : new.found ≡ true
-  pub taken : new.taken ≤ program_limit
+  pub taken : new.taken ≤ file_limit
 
 -- more than the limit was read
 pub record ReadsTooMuch (asked : Option Asked) (new : Outside) : Type 0 where
   pub command : IsSome asked
   pub found : new.found ≡ true
-  pub taken : new.taken ≡ program_limit + 1
+  pub taken : new.taken ≡ file_limit + 1
 
 -- `open` answered false
 pub record FindsNoFile (asked : Option Asked) (new : Outside) : Type 0 where
@@ -46,6 +65,8 @@ Cause asked old new status.Deadlock = ReadsWhole asked new
 Cause asked old new status.Trapped = ReadsWhole asked new
 Cause asked old new status.BadWords = asked ≡ None
 Cause asked old new status.BadProgram = ReadsWhole asked new
+Cause asked old new status.CheckFailed = ReadsWhole asked new
+Cause asked old new status.BadMachine = ReadsWhole asked new
 Cause asked old new status.TooBig = ReadsTooMuch asked new
 Cause asked old new status.ReadFault = FailsToRead asked old new
 Cause asked old new status.WriteFault = FailsToWrite old new

@@ -1,10 +1,17 @@
--- What a contract sees of a command that was read.
-use Rattle.bs_small.specs.declared.flat.Flat.{Flat}
-use Rattle.bs_top.specs.declared.words.Command.{Command}
-use Rattle.bs_top.specs.Words.{Asked, FlatMachine}
+-- What contracts see of a command that was read, and of a reply.
+use Rattle.bs_top.specs.declared.asked.Asked.{Asked as AskedFor}
+use Rattle.bs_top.specs.declared.asked.MachineWord.{MachineWord as Machine}
+use Rattle.bs_top.specs.declared.asked.MachineWord.TheVariants as word
+use Rattle.bs_top.specs.declared.stop.Reply.{Reply}
+use Rattle.bs_top.specs.Words.{Asked, model, MachineWord, flat, file}
+use Rattle.bs_top.specs.Step.{Said}
 
-abbrev pub asked_of : Command → Asked
-asked_of command = record { program = command.program.now; processors = command.machine.processors; latency = command.machine.latency }
+abbrev pub word_of : Machine → MachineWord
+word_of (word.Flat processors latency) = flat processors latency
+word_of (word.File name) = file name.now
 
-abbrev pub machine_of : Flat → FlatMachine
-machine_of machine = record { processors = machine.processors; latency = machine.latency }
+abbrev pub asked_of : AskedFor → Asked
+asked_of asked = model asked.program.now (word_of asked.machine)
+
+abbrev pub said_of : Reply → Said
+said_of reply = record { end = reply.end; text = reply.text.items }

@@ -1,65 +1,48 @@
--- What the words of a command line ask for (docs/output.md).
-use Rattle.std.specs.Prelude.{ℕ, ◌+◌, ◌==◌, nat_le, nat_lt, Bool, false, not, ◌&&◌, List, [], ◌∷◌, length, take, drop, take_while, Option, Some, None, Result, Ok, Err, if◌then◌else◌, codes}
+-- What the words of a command line ask for, as far as it is built (docs/output.md).
+use Rattle.std.specs.Prelude.{ℕ, ◌+◌, ◌==◌, ◌^◌, nat_lt, List, [], ◌∷◌, length, take, drop, Option, Some, None, option_map, option_and_then, if◌then◌else◌, codes}
 use Rattle.std.specs.Str.{bytes_eq}
-use Rattle.bs_num.specs.declared.fault.NumFault.{NumFault}
-use Rattle.bs_num.specs.Decimal.{number_in}
+use Rattle.bs_words.specs.Parts.{command_in}
+use Rattle.bs_words.specs.Roles.{before_colon, number_from}
+use Rattle.bs_words.specs.declared.command.Command.{Command}
+use Rattle.bs_words.specs.declared.verb.Verb.{Verb}
+use Rattle.bs_words.specs.declared.verb.Verb.TheVariants.{Model}
 
--- the name of the program's file, and the machine: its processors and its latency
-pub record Asked : Type 0 where
-  pub program : List ℕ
-  pub processors : ℕ
-  pub latency : ℕ
+-- the size of a run is at most this
+abbrev pub size_limit : ℕ
+size_limit = 262144
 
--- a number that was read, from 1 on
-abbrev pub from_one : Result ℕ NumFault → Option ℕ
-from_one (Ok n) = if nat_le 1 n then Some n else None
-from_one (Err fault) = None
+-- a machine: its processors and its latency, or the name of its file
+pub data MachineWord : Type 0 where
+  flat : ℕ → ℕ → MachineWord
+  file : List ℕ → MachineWord
 
--- a number of processors, from 1 to 65,536
-abbrev pub processors_in : List ℕ → Option ℕ
-processors_in text = from_one (number_in 65536 text)
+-- a command that is built, with the name of the program's file
+pub data Asked : Type 0 where
+  model : List ℕ → MachineWord → Asked
 
--- a latency, from 1 to 2^38 ticks
-abbrev pub latency_in : List ℕ → Option ℕ
-latency_in text = from_one (number_in 274877906944 text)
-
-pub record FlatMachine : Type 0 where
-  pub processors : ℕ
-  pub latency : ℕ
-
-abbrev pub both_numbers : Option ℕ → Option ℕ → Option FlatMachine
-both_numbers (Some processors) (Some latency) = Some (record { processors = processors; latency = latency })
-both_numbers (Some processors) None = None
-both_numbers None latency = None
-
--- how many bytes stand before the first `:`
-abbrev pub colon_place : List ℕ → ℕ
-colon_place text = length (take_while (λ byte. not (byte == 58)) text)
+abbrev pub flat_with : Option ℕ → Option ℕ → Option MachineWord
+flat_with (Some processors) (Some latency) = Some (flat processors latency)
+flat_with (Some processors) None = None
+flat_with None latency = None
 
 -- `P:L`
-abbrev pub flat_numbers : List ℕ → Option FlatMachine
+abbrev pub flat_numbers : List ℕ → Option MachineWord
 flat_numbers text =
-    if nat_lt (colon_place text) (length text)
-    then both_numbers (processors_in (take (colon_place text) text)) (latency_in (drop (colon_place text + 1) text))
+    if nat_lt (before_colon text) (length text)
+    then flat_with (number_from 1 65536 (take (before_colon text) text)) (number_from 1 (2 ^ 38) (drop (before_colon text + 1) text))
     else None
 
--- `flat:P:L`
-abbrev pub flat_machine : List ℕ → Option FlatMachine
-flat_machine word = if bytes_eq (take 5 word) (codes "flat:") then flat_numbers (drop 5 word) else None
+-- `flat:P:L`, or the name of a file
+abbrev pub machine_word : List ℕ → Option MachineWord
+machine_word word = if bytes_eq (take 5 word) (codes "flat:") then flat_numbers (drop 5 word) else Some (file word)
 
--- a word that may name a file: not empty, and no option
-abbrev pub is_name : List ℕ → Bool
-is_name [] = false
-is_name (first ∷ rest) = not (first == 45)
+abbrev pub asked_with : Verb → List (List ℕ) → Option Asked
+asked_with Model (program ∷ machine ∷ []) = option_map (λ m. model program m) (machine_word machine)
+asked_with _ _ = None
 
-abbrev pub asked_on : List ℕ → Option FlatMachine → Option Asked
-asked_on program None = None
-asked_on program (Some m) = Some (record { program = program; processors = m.processors; latency = m.latency })
+-- what is asked for, where the command is built: `model`, with no other limit than the greatest
+abbrev pub built : Command → Option Asked
+built command = if command.limit == size_limit then asked_with command.verb command.names else None
 
-abbrev pub asked_by_three : List ℕ → List ℕ → List ℕ → Option Asked
-asked_by_three verb program machine = if bytes_eq verb (codes "model") && is_name program then asked_on program (flat_machine machine) else None
-
--- `model PROG flat:P:L`, and nothing else
 abbrev pub asked_by : List (List ℕ) → Option Asked
-asked_by (verb ∷ program ∷ machine ∷ []) = asked_by_three verb program machine
-asked_by _ = None
+asked_by words = option_and_then built (command_in words)

@@ -8,6 +8,8 @@ ghost use Rattle.bs_top.specs.Words.{Asked};
 pub fn one_answer()
     ensures { (files : Files) (asked : Option Asked) (a b : Answer) → IsAnswer files asked a → IsAnswer files asked b → a ≡ b }
 {
-    bs_small::laws::one_reading();
+    bs_parse::text_laws::one_program();
+    bs_parse::text_laws::one_fault();
+    bs_parse::text_laws::no_both();
     bs_semantics::laws::one_serial();
 }

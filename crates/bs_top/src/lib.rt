@@ -3,10 +3,12 @@
 //! `docs/promises.md` says what it promises, `docs/output.md` what is written.
 #![tactic(auto)]
 
+mod asked;
 pub mod laws;
 mod perform;
 mod status;
-mod words;
+mod steps;
+mod stop;
 
 pub use perform::perform_alone;
 pub use status::Status;

@@ -13,8 +13,12 @@ pub enum Status {
     Trapped,
     /// The words are no command (10).
     BadWords,
-    /// The text is none of the programs that can be run (11).
+    /// The text is no program, or none of those that can be run (11).
     BadProgram,
+    /// The program breaks a rule of the language (12).
+    CheckFailed,
+    /// The machine's file is no machine, or the machine doesn't fit the program (13).
+    BadMachine,
     /// A file has more bytes than it may have (18).
     TooBig,
     /// A file could not be opened or read (20).
@@ -38,6 +42,8 @@ impl Status {
             Status::Trapped => 4,
             Status::BadWords => 10,
             Status::BadProgram => 11,
+            Status::CheckFailed => 12,
+            Status::BadMachine => 13,
             Status::TooBig => 18,
             Status::ReadFault => 20,
             Status::WriteFault => 21,

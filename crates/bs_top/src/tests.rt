@@ -48,17 +48,86 @@ fn words(alloc: Global, texts: &[&str]) -> Result<Vec<String>, AllocError> {
     Ok(words)
 }
 
-// Performs the words on a desk that holds one file `p`, and looks at the status and both streams.
+// A machine of two nodes, on which bytes cost.
+const SLOW_BYTES: &str = "[torus]
+sizes = [2]
+per_node = 1
+[place]
+kind = \"cycle\"
+[speed]
+num = 1
+den = 1
+[latency]
+self = 1
+local = 1
+base = 5
+hop = 0
+bytes_num = 1
+bytes_den = 64
+";
+
+const NO_BASE: &str = "[torus]
+sizes = [2]
+per_node = 1
+[place]
+kind = \"cycle\"
+[speed]
+num = 1
+den = 1
+[latency]
+self = 1
+local = 1
+base = 0
+hop = 0
+bytes_num = 1
+bytes_den = 64
+";
+
+// The same with one home too few for two chares.
+const ONE_HOME: &str = "[torus]
+sizes = [2]
+per_node = 1
+[place]
+kind = \"list\"
+list = [1]
+[speed]
+num = 1
+den = 1
+[latency]
+self = 1
+local = 1
+base = 5
+hop = 0
+bytes_num = 1
+bytes_den = 64
+";
+
+const SLOW_BYTES_REPORT: &str = "status settled
+block 1 chare 0 stmt 1 proc 0 start 0 end 4
+block 2 chare 0 stmt 3 proc 0 start 10 end 13
+value 1
+block 3 chare 1 stmt 1 proc 1 start 0 end 4
+block 4 chare 1 stmt 3 proc 1 start 10 end 13
+value 0
+span 13
+proc 0 blocks 2 busy 7 use 5384
+proc 1 blocks 2 busy 7 use 5384
+";
+
+// Performs the words on a desk that holds a program `p` and a machine `m`, and looks at the status and
+// both streams.
 fn expect(
     rt: &(impl Abort + AllocGlobal),
     texts: &[&str],
     program: &[u8],
+    machine: &[u8],
     status: Status,
     out: &str,
     err: &str,
 ) -> Result<(), Fail> {
     let mut desk = MemoryDesk::new(rt.alloc(), 16);
     desk.put_file("p", program)?;
+    desk.put_file("m", machine)?;
     let words = words(rt.alloc(), texts)?;
     assert_eq!(rt;
         perform_alone(rt.alloc(), words.as_slice(), &mut desk),
@@ -71,82 +140,198 @@ fn expect(
 
 #[test]
 fn reports(rt: HostRuntime) -> Result<(), Fail> {
+    let settled = Status::Settled;
+    let machine = SLOW_BYTES.as_bytes();
+    let cases = [
+        ("flat:2:5", TWO_CHARES, settled, TWO_CHARES_REPORT),
+        ("flat:2:5", NOBODY_SENDS, Status::Deadlock, DEADLOCK_REPORT),
+        ("m", TWO_CHARES, settled, SLOW_BYTES_REPORT),
+    ];
+    for (word, program, status, out) in &cases {
+        let words = ["model", "p", word];
+        expect(&rt, &words, program.as_bytes(), machine, *status, out, "")?;
+    }
+    Ok(())
+}
+
+#[test]
+fn bad_machines(rt: HostRuntime) -> Result<(), Fail> {
+    let program = TWO_CHARES.as_bytes();
+    let words = ["model", "p", "m"];
+    let cases = [
+        ("", "bad machine: missing torus.sizes\n"),
+        ("torus", "bad machine: not toml\n"),
+        ("[classes]\n", "bad machine: unknown key\n"),
+        (NO_BASE, "bad machine: out of range latency.base\n"),
+        (ONE_HOME, "bad machine: place length 1 needs 2\n"),
+    ];
+    for (machine, line) in &cases {
+        let machine = machine.as_bytes();
+        expect(&rt, &words, program, machine, Status::BadMachine, "", line)?;
+    }
+    Ok(())
+}
+
+#[test]
+fn bad_programs(rt: HostRuntime) -> Result<(), Fail> {
+    let words = ["model", "p", "flat:1:1"];
+    let cases = [
+        ("", "bad program: byte 0 unexpected\n"),
+        (
+            "chares 1; body { serial { x = 08; } }",
+            "bad program: byte 30 bad number\n",
+        ),
+        (
+            "chares 1; body { serial { work 1 $ 2; } }",
+            "bad program: byte 33 bad character\n",
+        ),
+        ("chares 1; body { serial { } }", "bad program: not built\n"),
+    ];
+    for (program, line) in &cases {
+        let program = program.as_bytes();
+        expect(&rt, &words, program, b"", Status::BadProgram, "", line)?;
+    }
+    let line = "bad program: byte 0 not utf-8\n";
+    expect(&rt, &words, b"\xff", b"", Status::BadProgram, "", line)
+}
+
+// 64 brackets may be open, and the 65th is too deep.
+#[test]
+fn too_deep(rt: HostRuntime) -> Result<(), Fail> {
+    let mut program = b"chares 1; body ".to_vec(rt.alloc())?;
+    for _ in 0..65 {
+        program.push(b'{')?;
+    }
+    let words = ["model", "p", "flat:1:1"];
+    let line = "bad program: byte 79 too deep\n";
+    expect(
+        &rt,
+        &words,
+        program.as_slice(),
+        b"",
+        Status::BadProgram,
+        "",
+        line,
+    )
+}
+
+// Parentheses leave nothing in the tree.
+#[test]
+fn parentheses(rt: HostRuntime) -> Result<(), Fail> {
+    let program = "chares 2; var x; entry go(1);
+body {
+  serial { work (3); send go[(7)]((this)) to (1 - (this)); }
+  when go[7](x) { serial { work 2; emit ((x)); } }
+}
+";
     let words = ["model", "p", "flat:2:5"];
     expect(
         &rt,
         &words,
-        TWO_CHARES.as_bytes(),
+        program.as_bytes(),
+        b"",
         Status::Settled,
         TWO_CHARES_REPORT,
         "",
+    )
+}
+
+// Of a program and a machine that are both at fault the first in the order of the steps is told.
+#[test]
+fn refusals(rt: HostRuntime) -> Result<(), Fail> {
+    let program = TWO_CHARES.as_bytes();
+    let machine = SLOW_BYTES.as_bytes();
+    let big = vec![in rt.alloc(); b' '; 1_048_577]?;
+    let too_big = "too big: limit 1048576 bytes\n";
+    let missing = "bad machine: missing torus.sizes\n";
+    let words = ["model", "p", "m"];
+    expect(
+        &rt,
+        &words,
+        big.as_slice(),
+        machine,
+        Status::TooBig,
+        "",
+        too_big,
     )?;
     expect(
         &rt,
         &words,
-        NOBODY_SENDS.as_bytes(),
-        Status::Deadlock,
-        DEADLOCK_REPORT,
+        program,
+        big.as_slice(),
+        Status::TooBig,
+        "",
+        too_big,
+    )?;
+    let line = "bad program: byte 0 unexpected\n";
+    expect(&rt, &words, b"", b"", Status::BadProgram, "", line)?;
+    let other = b"chares 1; body { serial { } }";
+    expect(&rt, &words, other, b"", Status::BadMachine, "", missing)?;
+    expect(
+        &rt,
+        &["model", "q", "m"],
+        program,
+        machine,
+        Status::NoFile,
+        "",
+        "",
+    )?;
+    expect(
+        &rt,
+        &["model", "p", "n"],
+        program,
+        machine,
+        Status::NoFile,
+        "",
         "",
     )
 }
 
 #[test]
-fn refusals(rt: HostRuntime) -> Result<(), Fail> {
-    let program = TWO_CHARES.as_bytes();
-    let not_built = "bad program: not built\n";
-    let words = ["model", "p", "flat:2:5"];
-    expect(&rt, &words, b"", Status::BadProgram, "", not_built)?;
-    let missing = ["model", "q", "flat:2:5"];
-    expect(&rt, &missing, program, Status::NoFile, "", "")?;
-    let big = vec![in rt.alloc(); b' '; 1_048_577]?;
-    let too_big = "too big: limit 1048576 bytes\n";
-    expect(&rt, &words, big.as_slice(), Status::TooBig, "", too_big)
-}
-
-#[test]
 fn bad_words(rt: HostRuntime) -> Result<(), Fail> {
-    let machines = [
-        "flat:0:5",
-        "flat:2:0",
-        "flat:65537:5",
-        "flat:007:5",
-        "flat:2",
-        "flat:2:5 ",
+    let cases: [&[&str]; 14] = [
+        &[],
+        &["run"],
+        &["model", "p"],
+        &["model", "-p", "flat:2:5"],
+        &["run", "p", "flat:2:5"],
+        &["check", "p"],
+        &["model", "p", "flat:0:5"],
+        &["model", "p", "flat:2:0"],
+        &["model", "p", "flat:65537:5"],
+        &["model", "p", "flat:007:5"],
+        &["model", "p", "flat:2"],
+        &["model", "p", "flat:2:5 "],
+        &["model", "p", "flat:2:5", "--limit", "3"],
+        &["model", "p", "flat:2:5", "--waves", "3"],
     ];
-    for machine in machines {
+    for words in &cases {
+        let program = TWO_CHARES.as_bytes();
         expect(
             &rt,
-            &["model", "p", machine],
+            words,
+            program,
             b"",
             Status::BadWords,
             "",
             "bad words\n",
         )?;
     }
-    expect(&rt, &[], b"", Status::BadWords, "", "bad words\n")?;
+    Ok(())
+}
+
+#[test]
+fn the_greatest_limit(rt: HostRuntime) -> Result<(), Fail> {
+    let words = ["model", "--limit", "262144", "p", "flat:2:5"];
+    let program = TWO_CHARES.as_bytes();
     expect(
         &rt,
-        &["model", "p"],
+        &words,
+        program,
         b"",
-        Status::BadWords,
+        Status::Settled,
+        TWO_CHARES_REPORT,
         "",
-        "bad words\n",
-    )?;
-    expect(
-        &rt,
-        &["model", "-p", "flat:2:5"],
-        b"",
-        Status::BadWords,
-        "",
-        "bad words\n",
-    )?;
-    expect(
-        &rt,
-        &["run", "p", "flat:2:5"],
-        b"",
-        Status::BadWords,
-        "",
-        "bad words\n",
     )
 }
 
@@ -156,6 +341,8 @@ fn codes(rt: HostRuntime) {
     assert_eq!(rt; Status::Deadlock.code(), 3);
     assert_eq!(rt; Status::BadWords.code(), 10);
     assert_eq!(rt; Status::BadProgram.code(), 11);
+    assert_eq!(rt; Status::CheckFailed.code(), 12);
+    assert_eq!(rt; Status::BadMachine.code(), 13);
     assert_eq!(rt; Status::TooBig.code(), 18);
     assert_eq!(rt; Status::NoFile.code(), 22);
 }

@@ -16,4 +16,4 @@ returns-clause-serial c =
     let s = c.args.small.now in
     let m = machine_of c.args.machine.now in
     let room : 2000 ≤ 262144 = omega arith in
-    if_ok c.outcome.result (λ o. o ≡ outcome_of m s) _ (λ o is x e. subst (λ k. IsSerial (program_of x e s) 262144 m (timed k)) (sym is) (serial_is x e s c.requires 262144 room m)) c.outcome.ensures.value
+    if_ok c.outcome.result (λ o. o ≡ outcome_of m s) _ (λ o is x e. subst (λ k. IsSerial (program_of x e s) 262144 m (timed k)) (sym is) (serial_is x e s c.requires.small 262144 room m)) c.outcome.ensures.value

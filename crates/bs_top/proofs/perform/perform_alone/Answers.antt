@@ -1,6 +1,29 @@
-use Rattle.bs_top.proofs.Told.{told_bad_words}
+use Rattle.std.proofs.Common.{map, string_bytes, refl}
+use Rattle.bs_top.specs.Seen.{said_of}
+use Rattle.bs_top.specs.Words.{asked_by}
+use Rattle.bs_top.proofs.Stages.{each}
+use Rattle.bs_top.proofs.Told.{said_report, said_refusal, said_nothing}
 use Rattle.bs_top.proofs.perform.perform_alone.Goals as goal
 
-pub returns-in-None-clause-told : goal.returns-in-None-clause-told
-returns-in-None-clause-told g c =
-    told_bad_words (g.D.Desk.world c.args.desk.now) (g.D.Desk.world c.refuse.new.desk) _ c.refuse.result c.in-None.ensures c.refuse.ensures
+pub returns-in-Ok-clause-told : goal.returns-in-Ok-clause-told
+returns-in-Ok-clause-told g c =
+    let old = g.D.Desk.world c.args.desk.now in
+    let asked = asked_by (map string_bytes c.args.words.now) in
+    each old.files old.files _ _ refl (λ files h.
+    said_report files asked old (g.D.Desk.world c.reply.new.desk) (g.D.Desk.world c.say.new.desk) c.say.result c.status_of.result (said_of c.in-Ok.reply) c.as_slice.result.now
+    c.in-Ok.ensures.reading h c.status_of.ensures c.as_slice.ensures.value c.say.ensures) c.in-Ok.ensures.told
+
+pub returns-in-Err-Refused-clause-told : goal.returns-in-Err-Refused-clause-told
+returns-in-Err-Refused-clause-told g c =
+    let old = g.D.Desk.world c.args.desk.now in
+    let asked = asked_by (map string_bytes c.args.words.now) in
+    each old.files old.files _ _ refl (λ files h.
+    said_refusal files asked old (g.D.Desk.world c.reply.new.desk) (g.D.Desk.world c.refuse.new.desk) c.refuse.result c.in-Err-Refused.fault c.in-Err-Refused.ensures.reading h c.refuse.ensures)
+    (rw c.in-Err-Refused.field-0-is at c.in-Err-Refused.ensures.told)
+
+pub returns-in-Err-NoFile-clause-told : goal.returns-in-Err-NoFile-clause-told
+returns-in-Err-NoFile-clause-told g c =
+    let old = g.D.Desk.world c.args.desk.now in
+    let asked = asked_by (map string_bytes c.args.words.now) in
+    each old.files old.files _ _ refl (λ files h. said_nothing files asked old (g.D.Desk.world c.reply.new.desk) c.in-Err-NoFile.ensures.reading h)
+    (rw c.in-Err-NoFile.field-0-is at c.in-Err-NoFile.ensures.told)

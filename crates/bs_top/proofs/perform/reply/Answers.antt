@@ -1,12 +1,32 @@
-use Rattle.bs_top.proofs.Texts.{replies_report, replies_not_built}
+use Rattle.std.proofs.Common.{map, string_bytes, sym, subst, refl, Err}
+use Rattle.bs_report.specs.declared.faults.Fault.TheVariants as fault
+use Rattle.bs_top.specs.declared.stop.Stop.TheVariants.{Refused}
+use Rattle.std.specs.Prelude.{IfSome}
+use Rattle.bs_words.specs.Parts.{command_in}
+use Rattle.bs_top.specs.Answer.{reply_to}
+use Rattle.bs_top.specs.Seen.{said_of}
+use Rattle.bs_top.specs.Step.{Told}
+use Rattle.bs_top.specs.Stops.{stop_for_words}
+use Rattle.bs_top.specs.Words.{asked_by}
+use Rattle.bs_top.proofs.Replying.{asked_is, bad_words, no_words, not_asked}
+use Rattle.bs_top.proofs.Stages.{always, at_stop}
 use Rattle.bs_top.proofs.perform.reply.Goals as goal
 
-pub returns-in-Ok-Report : goal.returns-in-Ok-Report
-returns-in-Ok-Report g c =
-    replies_report c.args.text.now c.args.machine.now (g.D.Desk.world c.args.desk.now) (g.D.Desk.world c.say.new.desk) c.say.result c.in-Ok-Report.status c.in-Ok-Report.report.items c.as_slice.result.now
-    (rw c.in-Ok-Report.field-0-is at c.in-Ok-Report.ensures) c.as_slice.ensures.value c.say.ensures
+pub returns-in_err-command-clause-told : goal.returns-in_err-command-clause-told
+returns-in_err-command-clause-told g c =
+    let words = map string_bytes c.args.words.now in
+    always (g.D.Desk.world c.args.desk.now).files (λ files.
+    at_stop (Told said_of (reply_to files (asked_by words))) (stop_for_words c.in_err-command.field-0.0) c.from_residual.result c.from_residual.ensures.1
+    (bad_words files (command_in words) c.in_err-command.field-0.0 c.in_err-command.ensures.err))
 
-pub returns-in-Ok-NotBuilt : goal.returns-in-Ok-NotBuilt
-returns-in-Ok-NotBuilt g c =
-    replies_not_built c.args.text.now c.args.machine.now (g.D.Desk.world c.args.desk.now) (g.D.Desk.world c.refuse.new.desk) c.refuse.result
-    (rw c.in-Ok-NotBuilt.field-0-is at c.in-Ok-NotBuilt.ensures) c.refuse.ensures
+pub returns-in-Some-clause-told : goal.returns-in-Some-clause-told
+returns-in-Some-clause-told g c =
+    let words = map string_bytes c.args.words.now in
+    subst (λ q. IfSome (g.D.Desk.world c.args.desk.now).files (λ files. Told said_of (reply_to files q) c.model.result))
+    (sym (asked_is (command_in words) c.in_ok-command.command c.built.result c.in-Some.asked c.in_ok-command.ensures.ok c.built.ensures c.in-Some.is)) c.model.ensures.told
+
+pub returns-clause-told : goal.returns-clause-told
+returns-clause-told g c =
+    let words = map string_bytes c.args.words.now in
+    subst (λ q. IfSome (g.D.Desk.world c.args.desk.now).files (λ files. Told said_of (reply_to files q) (Err (Refused fault.BadWords))))
+    (sym (not_asked (command_in words) c.in_ok-command.command c.built.result c.in_ok-command.ensures.ok c.built.ensures c.in-None.is)) (always (g.D.Desk.world c.args.desk.now).files no_words)

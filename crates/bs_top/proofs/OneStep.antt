@@ -1,0 +1,41 @@
+-- A step that gives one thing at most, and several of them one after another.
+use Rattle.std.proofs.Common.{◌≡◌, refl, sym, ap, ◌∙◌, subst, inl, inr, Result, Ok, Err}
+use Rattle.std.specs.Prelude.{◌⊎◌}
+use Rattle.bs_top.specs.declared.stop.Stop.{Stop}
+use Rattle.bs_top.specs.Step.{Step, gives, and_then}
+
+abbrev pub IsOne : {A : Type 0} → Step A → Type 0
+IsOne {A} step = (r s : Result A Stop) → step r → step s → r ≡ s
+
+pub one_given : {A : Type 0} (wanted : Result A Stop) → IsOne (gives wanted)
+one_given wanted r s a b = sym a ∙ b
+
+abbrev ok : {A : Type 0} → A → Result A Stop
+ok a = Ok a
+
+abbrev err : (A : Type 0) → Stop → Result A Stop
+err A s = Err s
+
+same_value : {A : Type 0} {a b : A} → ok a ≡ ok b → a ≡ b
+same_value e = cc
+
+not_both : {A B : Type 0} {a : A} {stop : Stop} → ok a ≡ Err stop → B
+not_both e = absurd (cc)
+
+same_stop : (A B : Type 0) (s t : Stop) → err A s ≡ err A t → err B s ≡ err B t
+same_stop A B s t e = cc
+
+module _ {A B : Type 0} (first : Step A) (next : A → Step B) (one_first : IsOne first) (one_next : (a : A) → IsOne (next a)) where
+  by_next : (r s : Result B Stop) (a b : A) → first (Ok a) → first (Ok b) → next a r → next b s → r ≡ s
+  by_next r s a b h k n m = one_next b r s (subst (λ c. next c r) (same_value (one_first (Ok a) (Ok b) h k)) n) m
+
+  pub one_after : IsOne (and_then first next)
+  one_after (Ok r) (Ok s) h k = by_next (Ok r) (Ok s) h.0 k.0 h.1 k.1 h.2 k.2
+  one_after (Ok r) (Err s) h (inl k) = not_both (one_first (Ok h.0) (Err s) h.1 k)
+  one_after (Ok r) (Err s) h (inr k) = by_next (Ok r) (Err s) h.0 k.0 h.1 k.1 h.2 k.2
+  one_after (Err r) (Ok s) (inl h) k = not_both (one_first (Ok k.0) (Err r) k.1 h)
+  one_after (Err r) (Ok s) (inr h) k = by_next (Err r) (Ok s) h.0 k.0 h.1 k.1 h.2 k.2
+  one_after (Err r) (Err s) (inl h) (inl k) = same_stop A B r s (one_first (Err r) (Err s) h k)
+  one_after (Err r) (Err s) (inl h) (inr k) = not_both (one_first (Ok k.0) (Err r) k.1 h)
+  one_after (Err r) (Err s) (inr h) (inl k) = not_both (one_first (Ok h.0) (Err s) h.1 k)
+  one_after (Err r) (Err s) (inr h) (inr k) = by_next (Err r) (Err s) h.0 k.0 h.1 k.1 h.2 k.2

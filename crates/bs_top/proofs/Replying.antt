@@ -1,0 +1,63 @@
+-- What comes of a command, from its steps.
+use Rattle.std.proofs.Common.{◌≡◌, ◌≢◌, ℕ, List, refl, sym, ap, ◌∙◌, subst, Option, Some, None, Result, Ok, Err}
+use Rattle.bs_desk.specs.Outside.{Files}
+use Rattle.bs_machine.specs.Machine.{MachineOf, machine_view}
+use Rattle.bs_words.specs.declared.command.Command.{Command}
+use Rattle.bs_words.specs.declared.fault.WordsFault.{WordsFault}
+use Rattle.bs_words.specs.declared.fault.WordsFault.TheVariants as words
+use Rattle.bs_report.specs.declared.faults.Fault.TheVariants as fault
+use Rattle.std.specs.Option.{option_and_then, option_map}
+use Rattle.bs_top.specs.declared.stop.Reply.{Reply}
+use Rattle.bs_top.specs.declared.stop.Stop.{Stop}
+use Rattle.bs_top.specs.declared.stop.Stop.TheVariants.{Refused}
+use Rattle.bs_top.specs.Answer.{contents, machine_named, program_in, reply_to, simulated}
+use Rattle.bs_top.specs.declared.asked.Asked.{Asked as AskedFor}
+use Rattle.bs_top.specs.Seen.{asked_of, said_of}
+use Rattle.bs_top.specs.Step.{Told, and_then}
+use Rattle.bs_top.specs.Stops.{stop_for_words}
+use Rattle.bs_top.specs.Words.{Asked, model, MachineWord, built}
+use Rattle.bs_tree.specs.declared.tree.Program.{Program}
+use Rattle.bs_top.proofs.Machines.{items}
+use Rattle.bs_top.proofs.Simulating.{itself}
+use Rattle.bs_top.proofs.Stages.{stops, goes_on}
+
+module _ (files : Files) (name : List ℕ) (word : MachineWord) where
+  abbrev pub reply : Option Asked
+  reply = Some (model name word)
+
+  pub no_text : (stop : Stop) → Told items (contents files name) (Err stop) → Told said_of (reply_to files reply) (Err stop)
+  unfolding reply_to
+  no_text stop h = stops items said_of (contents files name) (λ text. and_then (program_in text) (λ p. and_then (machine_named files word) (λ m. simulated p m))) stop h
+
+  module _ (text : List ℕ) (is_text : contents files name (Ok text)) where
+    pub no_program : (stop : Stop) → Told itself (program_in text) (Err stop) → Told said_of (reply_to files reply) (Err stop)
+    unfolding reply_to
+    no_program stop h = goes_on said_of (contents files name) (λ text. and_then (program_in text) (λ p. and_then (machine_named files word) (λ m. simulated p m))) text (Err stop) is_text
+        (stops itself said_of (program_in text) (λ p. and_then (machine_named files word) (λ m. simulated p m)) stop h)
+
+    module _ (p : Program) (is_program : program_in text (Ok p)) where
+      on_program : (r : Result Reply Stop) → Told said_of (and_then (machine_named files word) (λ m. simulated p m)) r → Told said_of (reply_to files reply) r
+      unfolding reply_to
+      on_program r h = goes_on said_of (contents files name) (λ text. and_then (program_in text) (λ p. and_then (machine_named files word) (λ m. simulated p m))) text r is_text
+          (goes_on said_of (program_in text) (λ p. and_then (machine_named files word) (λ m. simulated p m)) p r is_program h)
+
+      pub no_machine : (stop : Stop) → Told machine_view (machine_named files word) (Err stop) → Told said_of (reply_to files reply) (Err stop)
+      no_machine stop h = on_program (Err stop) (stops machine_view said_of (machine_named files word) (λ m. simulated p m) stop h)
+
+      pub on_machine : (m : MachineOf) (r : Result Reply Stop) → machine_named files word (Ok m) → Told said_of (simulated p m) r → Told said_of (reply_to files reply) r
+      on_machine m r h k = on_program r (goes_on said_of (machine_named files word) (λ m. simulated p m) m r h k)
+
+pub no_words : (files : Files) → Told said_of (reply_to files None) (Err (Refused fault.BadWords))
+unfolding reply_to
+no_words files = refl
+
+-- words that are no command
+pub bad_words : (files : Files) (command : Option Command) (why : WordsFault) → (why ≢ words.Memory → command ≡ None) → Told said_of (reply_to files (option_and_then built command)) (Err (stop_for_words why))
+bad_words files command words.BadWords h = subst (λ c. Told said_of (reply_to files (option_and_then built c)) (Err (Refused fault.BadWords))) (sym (h (λ e. absurd (cc)))) (no_words files)
+bad_words files command words.Memory h = tt
+
+pub asked_is : (o : Option Command) (command : Command) (b : Option AskedFor) (a : AskedFor) → o ≡ Some command → option_map asked_of b ≡ built command → b ≡ Some a → option_and_then built o ≡ Some (asked_of a)
+asked_is o command b a is seen got = ap (option_and_then built) is ∙ sym seen ∙ ap (option_map asked_of) got
+
+pub not_asked : (o : Option Command) (command : Command) (b : Option AskedFor) → o ≡ Some command → option_map asked_of b ≡ built command → b ≡ None → option_and_then built o ≡ None
+not_asked o command b is seen got = ap (option_and_then built) is ∙ sym seen ∙ ap (option_map asked_of) got

@@ -1,0 +1,35 @@
+-- The steps of a command: each gives a value to go on with, or a reason to stop.
+use Rattle.std.specs.Prelude.{◌≡◌, ◌⊎◌, ℕ, List, Result, Ok, Err}
+use Rattle.bs_log.specs.declared.outcome.End.{End}
+use Rattle.bs_top.specs.declared.stop.Stop.{Stop}
+use Rattle.bs_top.specs.declared.stop.Stop.TheVariants.{Refused, NoFile, ReadFault, Memory}
+
+-- a text for standard output, and how the command ends
+pub record Said : Type 0 where
+  pub end : End
+  pub text : List ℕ
+
+-- what a step may give
+abbrev pub Step : Type 0 → Type 1
+Step A = Result A Stop → Type 0
+
+-- a step that gives just this
+abbrev pub gives : {A : Type 0} → Result A Stop → Step A
+gives wanted result = wanted ≡ result
+
+-- one step, and then another with what the first one gave; a reason to stop stays
+abbrev pub and_then : {A B : Type 0} → Step A → (A → Step B) → Step B
+and_then {A} first next (Ok b) = (a : A) × first (Ok a) × next a (Ok b)
+and_then {A} first next (Err stop) = first (Err stop) ⊎ ((a : A) × first (Ok a) × next a (Err stop))
+
+infixl 10 ◌>>=◌
+abbrev pub ◌>>=◌ : {A B : Type 0} → Step A → (A → Step B) → Step B
+first >>= next = and_then first next
+
+-- this came of a step, unless reading failed or memory was wanting
+abbrev pub Told : {A B : Type 0} → (B → A) → Step A → Result B Stop → Type 0
+Told view step (Ok b) = step (Ok (view b))
+Told view step (Err (Refused fault)) = step (Err (Refused fault))
+Told view step (Err NoFile) = step (Err NoFile)
+Told view step (Err ReadFault) = Unit {0}
+Told view step (Err Memory) = Unit {0}

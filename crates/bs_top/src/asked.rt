@@ -1,0 +1,100 @@
+// What a command asks for, as far as it is built.
+ghost use Rattle.std.specs.Prelude.{◌≡◌, ◌+◌, ◌<◌, ◌≤◌, length, take, drop, option_map, IfSome};
+ghost use Rattle.bs_words.specs.Roles.{before_colon, number_from};
+ghost use Rattle.bs_top.specs.Seen.{asked_of, word_of};
+ghost use Rattle.bs_top.specs.Words.{asked_with, built as built_of, flat_numbers, machine_word as machine_word_of};
+
+use bs_num::read_decimal;
+use bs_words::{Argument, Command, Verb};
+
+/// What `model` is asked for: the name of the program's file, and the machine.
+#[derive(Clone, Copy, Drop)]
+pub(crate) struct Asked<'a> {
+    pub(crate) program: &'a str,
+    pub(crate) machine: MachineWord<'a>,
+}
+
+/// A machine: its processors and its latency, or the name of its file.
+#[derive(Clone, Copy, Drop)]
+pub(crate) enum MachineWord<'a> {
+    Flat(u32, u64),
+    File(&'a str),
+}
+
+/// What the command asks for, where it is built. It takes no memory.
+pub(crate) fn built(command: &Command) -> Option<Asked<'_>>
+    ensures { option_map asked_of result ≡ built_of command.now }
+{
+    if command.limit == 262_144 {
+        with_names(command.verb, command.names.as_slice())
+    } else {
+        None
+    }
+}
+
+fn with_names(verb: Verb, names: &[Argument]) -> Option<Asked<'_>>
+    ensures { option_map asked_of result ≡ asked_with verb names.now }
+{
+    match (verb, names) {
+        (Verb::Model, [program, machine]) => {
+            let machine = machine_word(machine.text())?;
+            let program = program.text();
+            Some(Asked { program, machine })
+        }
+        _ => None,
+    }
+}
+
+// `flat:P:L`, or the name of a file.
+fn machine_word(word: &str) -> Option<MachineWord<'_>>
+    ensures { option_map word_of result ≡ machine_word_of word.now }
+{
+    match word.as_bytes() {
+        [b'f', b'l', b'a', b't', b':', numbers @ ..] => read_numbers(numbers),
+        _ => Some(MachineWord::File(word)),
+    }
+}
+
+// `P:L`
+fn read_numbers<'a>(text: &[u8]) -> Option<MachineWord<'a>>
+    ensures { option_map word_of result ≡ flat_numbers text.now }
+{
+    let at = colon(text);
+    if at >= text.len() {
+        return None;
+    }
+    let processors = number(front(text, at), 65_536)?;
+    let latency = number(behind(text, at), 1 << 38)?;
+    Some(MachineWord::Flat(processors as u32, latency))
+}
+
+fn colon(text: &[u8]) -> usize
+    ensures value { result ≡ before_colon text.now }
+{
+    text.iter().take_while(|byte| **byte != b':').count()
+}
+
+fn front(text: &[u8], at: usize) -> &[u8]
+    requires { at ≤ length text.now }
+    ensures { result.now ≡ take at text.now }
+{
+    &text[..at]
+}
+
+fn behind(text: &[u8], at: usize) -> &[u8]
+    requires { at < length text.now }
+    ensures { result.now ≡ drop (at + 1) text.now }
+{
+    &text[at + 1..]
+}
+
+// A plain decimal from 1 to `most`.
+fn number(text: &[u8], most: u64) -> Option<u64>
+    ensures value { result ≡ number_from 1 most text.now }
+    ensures most { IfSome result (λ n. n ≤ most) }
+{
+    match read_decimal(text, most) {
+        Ok(number) if number >= 1 => Some(number),
+        _ => None,
+    }
+}

@@ -1,0 +1,144 @@
+// The steps of a command, up to its reply.
+ghost use Rattle.std.specs.Prelude.{◌≡◌, ◌≤◌, ℕ, List as PlainList, IfErr, IfOk, IfSome, Some};
+ghost use Rattle.bs_desk.specs.Outside.{IsReading};
+ghost use Rattle.bs_machine.specs.File.{machine_in};
+ghost use Rattle.bs_machine.specs.Machine.{flat_in, machine_view};
+ghost use Rattle.bs_small.specs.Form.{IsSmall, program_of};
+ghost use Rattle.bs_top.specs.Answer.{IsReport, contents, fits, machine_named, or_bad_machine, program_in, reply_to, simulated};
+ghost use Rattle.bs_top.specs.Causes.{HasRead, StepCause};
+ghost use Rattle.bs_top.specs.Computing.{Computes, IsSmallOf};
+ghost use Rattle.bs_top.specs.Seen.{said_of, word_of};
+ghost use Rattle.bs_top.specs.Step.{Told, gives};
+ghost use Rattle.bs_top.specs.Words.{model as model_asked};
+
+use crate::asked::MachineWord;
+use crate::stop::{Reply, Stop};
+use bs_desk::{Desk, ReadAllFault, read_all};
+use bs_machine::{Fitted, Machine, flat, read_machine};
+use bs_parse::parse;
+use bs_report::{Fault, end, report};
+use bs_small::{Small, run, small_of};
+use bs_tree::Program;
+use std::alloc::{AllocError, Global};
+
+/// How many bytes a file may have.
+const FILE_LIMIT: u64 = 1_048_576;
+
+/// Reads the file of that name.
+pub(crate) fn file<D: Desk>(alloc: Global, desk: &mut D, name: &str) -> Result<Vec<u8>, Stop>
+    ensures reading { IsReading (D.world desk.old) (D.world desk.new) }
+    ensures later { (D.world desk.old).read_faults ≤ (D.world desk.new).read_faults }
+    ensures cause { StepCause (D.world desk.old) (D.world desk.new) result }
+    ensures told { IfSome (D.world desk.old).files (λ files. Told (λ bytes. bytes.items) (contents files name.now) result) }
+{
+    match read_all(alloc, desk, name, FILE_LIMIT) {
+        Ok(bytes) => Ok(bytes),
+        Err(ReadAllFault::Failed) => Err(Stop::ReadFault),
+        Err(ReadAllFault::Missing) => Err(Stop::NoFile),
+        Err(ReadAllFault::TooBig(limit)) => Err(Stop::Refused(Fault::TooBig(limit))),
+        Err(ReadAllFault::Memory) => Err(Stop::Memory),
+    }
+}
+
+/// Makes the machine of a word.
+pub(crate) fn machine<D: Desk>(
+    alloc: Global,
+    desk: &mut D,
+    word: MachineWord<'_>,
+) -> Result<Machine, Stop>
+    ensures reading { IsReading (D.world desk.old) (D.world desk.new) }
+    ensures later { (D.world desk.old).read_faults ≤ (D.world desk.new).read_faults }
+    ensures cause { HasRead (D.world desk.old) → StepCause (D.world desk.old) (D.world desk.new) result }
+    ensures told { IfSome (D.world desk.old).files (λ files. Told machine_view (machine_named files (word_of word.entry)) result) }
+{
+    match word {
+        MachineWord::Flat(processors, latency) => flat_machine(alloc, processors, latency),
+        MachineWord::File(name) => {
+            let bytes = file(alloc, desk, name)?;
+            machine_of_file(alloc, bytes.as_slice())
+        }
+    }
+}
+
+fn flat_machine(alloc: Global, processors: u32, latency: u64) -> Result<Machine, Stop>
+    ensures kind { Computes result }
+    ensures told { Told machine_view (gives (or_bad_machine (flat_in processors latency))) result }
+{
+    Ok(flat(alloc, processors, latency)?)
+}
+
+fn machine_of_file(alloc: Global, bytes: &[u8]) -> Result<Machine, Stop>
+    ensures kind { Computes result }
+    ensures told { Told machine_view (gives (or_bad_machine (machine_in bytes.now))) result }
+{
+    Ok(read_machine(alloc, bytes)?)
+}
+
+/// The program that a text spells.
+fn program_of_text(alloc: Global, text: &[u8]) -> Result<Program, Stop>
+    ensures kind { Computes result }
+    ensures told { Told (λ program. program) (program_in text.now) result }
+{
+    Ok(parse(alloc, text)?)
+}
+
+/// Runs a program on a machine.
+fn simulate(alloc: Global, program: &Program, machine: Machine) -> Result<Reply, Stop>
+    ensures kind { Computes result }
+    ensures told { Told said_of (simulated program.now (machine_view machine)) result }
+{
+    let small = small_program(alloc, program)?;
+    let fitted = fit(machine, 2)?;
+    Ok(report_of(alloc, &small, &fitted)?)
+}
+
+// What a program holds, if it is of the small form.
+fn small_program(alloc: Global, program: &Program) -> Result<Small, Stop>
+    ensures { IsSmallOf program.now result }
+{
+    match small_of(alloc, program)? {
+        Some(small) => Ok(small),
+        None => Err(Stop::Refused(Fault::NotBuilt)),
+    }
+}
+
+fn fit(machine: Machine, chares: u32) -> Result<Fitted, Stop>
+    requires { (1 ≤ chares) × (chares ≤ 65536) }
+    ensures kind { Computes result }
+    ensures fitted { IfOk result (λ fitted. (fitted.machine ≡ machine) × (fitted.chares ≡ chares)) }
+    ensures told { Told (λ _. tt) (fits chares (machine_view machine)) result }
+{
+    Ok(machine.fit(chares)?)
+}
+
+// The report of the run of a program of the small form.
+fn report_of(alloc: Global, small: &Small, fitted: &Fitted) -> Result<Reply, AllocError>
+    requires small { IsSmall small.now }
+    requires chares { fitted.now.chares ≡ 2 }
+    ensures { IfOk result (λ reply. (x e : PlainList ℕ) → IsReport (program_of x e small.now) (machine_view fitted.now.machine) (said_of reply)) }
+{
+    let outcome = run(alloc, small, fitted)?;
+    let text = report(alloc, &outcome)?;
+    Ok(Reply {
+        end: end(&outcome),
+        text,
+    })
+}
+
+/// Reads a program and a machine, and runs the one on the other.
+pub(crate) fn model<D: Desk>(
+    alloc: Global,
+    desk: &mut D,
+    name: &str,
+    word: MachineWord<'_>,
+) -> Result<Reply, Stop>
+    ensures reading { IsReading (D.world desk.old) (D.world desk.new) }
+    ensures later { (D.world desk.old).read_faults ≤ (D.world desk.new).read_faults }
+    ensures cause { StepCause (D.world desk.old) (D.world desk.new) result }
+    ensures told { IfSome (D.world desk.old).files (λ files. Told said_of (reply_to files (Some (model_asked name.now (word_of word.entry)))) result) }
+{
+    let text = file(alloc, desk, name)?;
+    let program = program_of_text(alloc, text.as_slice())?;
+    let machine = machine(alloc, desk, word)?;
+    simulate(alloc, &program, machine)
+}

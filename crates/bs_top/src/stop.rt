@@ -1,0 +1,79 @@
+// What comes of a command before anything is written.
+ghost use Rattle.std.specs.Prelude.{◌≡◌};
+ghost use Rattle.bs_top.specs.Stops.{stop_for_machine, stop_for_place, stop_for_program, stop_for_words};
+ghost use Rattle.bs_top.specs.declared.stop.Stop.TheVariants.{Memory};
+
+use bs_log::End;
+use bs_machine::{MachineFault, PlaceLength};
+use bs_parse::ParseFault;
+use bs_report::Fault;
+use bs_words::WordsFault;
+use std::alloc::AllocError;
+
+/// A text for standard output, and how the command ends.
+#[derive(Drop)]
+pub(crate) struct Reply {
+    pub(crate) end: End,
+    pub(crate) text: Vec<u8>,
+}
+
+/// Why a command stops before it has a reply.
+#[derive(Drop)]
+pub(crate) enum Stop {
+    /// A step refuses, and a line tells why.
+    Refused(Fault),
+    /// A file isn't there.
+    NoFile,
+    /// The desk refused to open or to read a file.
+    ReadFault,
+    Memory,
+}
+
+impl From<AllocError> for Stop {
+    ghost from_gives = { λ _ given. given ≡ Memory };
+
+    fn from(_error: AllocError) -> Stop {
+        Stop::Memory
+    }
+}
+
+impl From<WordsFault> for Stop {
+    ghost from_gives = { λ fault given. given ≡ stop_for_words fault };
+
+    fn from(fault: WordsFault) -> Stop {
+        match fault {
+            WordsFault::BadWords => Stop::Refused(Fault::BadWords),
+            WordsFault::Memory => Stop::Memory,
+        }
+    }
+}
+
+impl From<ParseFault> for Stop {
+    ghost from_gives = { λ fault given. given ≡ stop_for_program fault };
+
+    fn from(fault: ParseFault) -> Stop {
+        match fault {
+            ParseFault::Memory => Stop::Memory,
+            _ => Stop::Refused(Fault::BadProgram(fault)),
+        }
+    }
+}
+
+impl From<MachineFault> for Stop {
+    ghost from_gives = { λ fault given. given ≡ stop_for_machine fault };
+
+    fn from(fault: MachineFault) -> Stop {
+        match fault {
+            MachineFault::Memory => Stop::Memory,
+            _ => Stop::Refused(Fault::BadMachine(fault)),
+        }
+    }
+}
+
+impl From<PlaceLength> for Stop {
+    ghost from_gives = { λ length given. given ≡ stop_for_place length };
+
+    fn from(length: PlaceLength) -> Stop {
+        Stop::Refused(Fault::BadPlace(length))
+    }
+}
