@@ -3,10 +3,17 @@
 //! `docs/model.md` says what a block, a cause, a path, a depth and a message are.
 #![tactic(auto)]
 
+mod closed;
+mod ending;
 mod history;
 mod log;
+mod messages;
 mod outcome;
+mod sizes;
 
+pub use closed::is_closed;
+pub use ending::end;
 pub use history::{Asked, Block, History, Key, Message, Origin, Sent, TrapAt, TrapKind, WaitAt};
 pub use log::{Log, MailRef, Row, TrapRow, WaitRow};
 pub use outcome::{End, OutRow, Outcome};
+pub use sizes::size;

@@ -1,0 +1,2 @@
+pub mod ClosedTests
+pub mod Decided
