@@ -13,8 +13,10 @@ pub struct Accepted {
     program: Program,
     kinds: Vec<Option<Kind>>,
     cells: u32,
+    chares: u32,
     ghost has_kinds: { HasKinds program kinds.items },
     ghost has_cells: { cells ≡ all_cells program.vars },
+    ghost has_chares: { chares ≡ program.chares },
 }
 
 impl Accepted {
@@ -46,6 +48,13 @@ impl Accepted {
         ensures { result ≡ all_cells self.now.program.vars }
     {
         self.cells
+    }
+
+    /// How many chares the program has. It takes no memory.
+    pub fn chares(&self) -> u32
+        ensures { result ≡ self.now.program.chares }
+    {
+        self.chares
     }
 }
 
