@@ -1,5 +1,5 @@
 -- A block is what its acts come to from no steps, no sends and a cost of 1.
-use Rattle.std.proofs.Common.{◌≡◌, ℕ, List, map, Result, Ok, Err, refl, ap, subst, ◌∙◌}
+use Rattle.std.proofs.Common.{◌≡◌, List, map, Result, Err, refl, ap, subst, ◌∙◌}
 use Rattle.bs_tree.specs.declared.tree.Act.{Act}
 use Rattle.bs_tree.specs.declared.tree.Program.{Program}
 use Rattle.bs_semantics.specs.Acts.{Tally, Done, do_all, act_of, block_of}

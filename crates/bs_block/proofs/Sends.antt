@@ -11,7 +11,7 @@ use Rattle.bs_log.specs.declared.history.TrapKind.{TrapKind}
 use Rattle.bs_log.specs.declared.history.TrapKind.TheVariants.{Target, BytesRange}
 use Rattle.bs_log.specs.declared.history.TrapKind.TheVariants as trap
 use Rattle.bs_semantics.specs.Layout.{entry_of}
-use Rattle.bs_semantics.specs.Value.{Cells, value_of}
+use Rattle.bs_semantics.specs.Value.{value_of}
 use Rattle.bs_semantics.specs.Acts.{Parcel, Tally, Done, Acting, act_of, act_step, stepped, with_value, values_of, bytes_value, upto}
 use Rattle.bs_block.specs.declared.done.BlockFault.{BlockFault}
 use Rattle.bs_block.specs.declared.progress.Progress.{Progress}

@@ -1,9 +1,9 @@
 -- The steps of the loops over acts and turns.
-use Rattle.std.proofs.Common.{◌≡◌, ℕ, suc, ◌+◌, ◌-◌, ◌<◌, true, false, nat_lt, List, ◌∷◌, drop, map, Result, Ok, Err, sym, ap, ◌∙◌, if◌then◌else◌, arith}
+use Rattle.std.proofs.Common.{◌≡◌, ℕ, suc, ◌+◌, ◌-◌, ◌<◌, true, nat_lt, List, ◌∷◌, drop, map, Ok, Err, sym, ap, ◌∙◌, if◌then◌else◌, arith}
 use Rattle.bs_tree.specs.declared.tree.Act.{Act}
 use Rattle.bs_tree.specs.declared.tree.Program.{Program}
 use Rattle.bs_log.specs.declared.history.TrapKind.TheVariants as trap
-use Rattle.bs_semantics.specs.Acts.{Tally, Done, Acting, with_value, do_all, times, act_of}
+use Rattle.bs_semantics.specs.Acts.{Tally, Acting, with_value, do_all, times, act_of}
 use Rattle.bs_block.specs.declared.done.BlockFault.{BlockFault}
 use Rattle.bs_block.specs.declared.done.BlockFault.TheVariants.{Trap, Memory}
 use Rattle.bs_block.specs.declared.progress.Progress.{Progress}

@@ -1,5 +1,5 @@
 -- The cells of a chare during a block, which may have to be given back.
-use Rattle.std.specs.Prelude.{◌<◌, ℕ, List, [], ◌∷◌, length, slice_set, All, refl}
+use Rattle.std.specs.Prelude.{◌<◌, List, [], ◌∷◌, length, slice_set, All, refl}
 use Rattle.std.specs.Coded.{Coded, code_by, coded×, coded_list, coded_ℤ}
 use Rattle.bs_semantics.specs.Value.{Cells}
 use Rattle.bs_block.specs.declared.draft.Held.{Held}

@@ -1,5 +1,5 @@
 -- The cells of one chare, as contracts see them.
-use Rattle.std.specs.Prelude.{◌≡◌, ◌<◌, ◌≤◌, ℕ, ℤ, pos, List, length, map, replicate, refl}
+use Rattle.std.specs.Prelude.{◌≡◌, ◌<◌, ℕ, ℤ, pos, List, length, replicate, refl}
 use Rattle.std.specs.Coded.{Coded, code_by, coded×, coded_ℕ, coded_ℤ, coded_list}
 use Rattle.bs_tree.specs.declared.tree.Program.{Program}
 use Rattle.bs_semantics.specs.Layout.{all_cells}

@@ -1,5 +1,5 @@
 -- A block so far, beside the cells of its chare.
-use Rattle.std.specs.Prelude.{◌≡◌, ◌^◌, ◌+◌, ℕ, true, false, nat_lt, nat_le, List, [], map, Result, Ok, Err}
+use Rattle.std.specs.Prelude.{◌≡◌, ◌^◌, ◌+◌, ℕ, true, false, nat_lt, nat_le, [], map, Result, Ok, Err}
 use Rattle.bs_log.specs.declared.history.TrapKind.{TrapKind}
 use Rattle.bs_log.specs.declared.history.TrapKind.TheVariants as trap
 use Rattle.bs_semantics.specs.Acts.{Parcel, Tally, Done}

@@ -1,7 +1,6 @@
 use Rattle.std.proofs.Common.{◌≡◌, Ok, Err, ap, sym, ◌∙◌}
-use Rattle.bs_semantics.specs.Acts.{Done, block_of}
+use Rattle.bs_semantics.specs.Acts.{block_of}
 use Rattle.bs_block.specs.Draft.{fresh}
-use Rattle.bs_block.specs.Env.{ChareCells}
 use Rattle.bs_block.specs.Progress.{tally_of}
 use Rattle.bs_block.proofs.Blocks.{block_left, block_refused}
 use Rattle.bs_block.proofs.block.run_block.Goals as goal
