@@ -1,5 +1,5 @@
 -- A name that is declared stands where the layout of the program has it.
-use Rattle.std.proofs.Common.{◌≡◌, ℕ, ◌+◌, ◌==◌, true, false, if◌then◌else◌, List, [], ◌∷◌, Option, Some, None, refl, subst, IsSome, slice_get}
+use Rattle.std.proofs.Common.{ap, ◌∙◌, ◌≡◌, ℕ, ◌+◌, ◌==◌, true, false, if◌then◌else◌, List, [], ◌∷◌, Option, Some, None, refl, subst, IsSome, slice_get}
 use Rattle.bs_tree.specs.declared.tree.NameId.{NameId}
 use Rattle.bs_tree.specs.declared.tree.VarDecl.{VarDecl}
 use Rattle.bs_tree.specs.declared.tree.EntryDecl.{EntryDecl}
@@ -7,6 +7,7 @@ use Rattle.bs_tree.specs.declared.tree.Program.{Program}
 use Rattle.bs_semantics.specs.Layout.{Place, width, find_var, find_entry, place_of, entry_of}
 use Rattle.bs_check.specs.declared.kind.Kind.{Kind}
 use Rattle.bs_check.specs.declared.kind.Kind.TheVariants.{Scalar, Array, Entry}
+use Rattle.bs_check.specs.Table.{joined, IsTable}
 use Rattle.bs_check.specs.Accepted.{HasKinds}
 use Rattle.bs_check.specs.Kinds.{kind_from, var_kind, entry_kind, or_entry, kind_of, IsPlaced}
 
@@ -76,3 +77,10 @@ same_kind (Some k) found kind is f h = let e = f k refl in cc
 -- what the table has of a declared name is its kind
 pub kind_is : (p : Program) (kinds : List (Option Kind)) (name : NameId) (kind : Kind) → HasKinds p kinds → IsSome (kind_of p name) → slice_get kinds name.0 ≡ Some (Some kind) → kind_of p name ≡ Some kind
 kind_is p kinds name kind has is h = same_kind (kind_of p name) (slice_get kinds name.0) kind is (λ k e. has name.0 k e) h
+
+some_kind : (o : Option (Option Kind)) (kind : Kind) → joined o ≡ Some kind → o ≡ Some (Some kind)
+some_kind None kind h = absurd (cc)
+some_kind (Some o) kind h = ap Some h
+
+pub has_kinds : (p : Program) (kinds : List (Option Kind)) → IsTable p kinds → HasKinds p kinds
+has_kinds p kinds table n kind h = some_kind (slice_get kinds n) kind (table n ∙ h)

@@ -64,6 +64,9 @@ known_step p (Expr-F.Two op a b) = a && b
 abbrev pub is_known : Program → Expr → Bool
 is_known p = fold-Expr Bool (known_step p)
 
+abbrev pub are_exprs_known : Program → List Expr → Bool
+are_exprs_known p exprs = all_true (map (is_known p) exprs)
+
 abbrev pub is_known_if_given : Program → Option Expr → Bool
 is_known_if_given p None = true
 is_known_if_given p (Some e) = is_known p e
@@ -71,7 +74,7 @@ is_known_if_given p (Some e) = is_known p e
 abbrev pub known_act_step : Program → Act-F Bool → Bool
 known_act_step p (Act-F.Set x e) = is_scalar p x && is_known p e
 known_act_step p (Act-F.SetAt x i e) = is_array p x && is_known p i && is_known p e
-known_act_step p (Act-F.Send entry reference args target bytes) = is_entry p entry && is_known p reference && all_true (map (is_known p) args) && is_known p target && is_known_if_given p bytes
+known_act_step p (Act-F.Send entry reference args target bytes) = is_entry p entry && is_known p reference && are_exprs_known p args && is_known p target && is_known_if_given p bytes
 known_act_step p (Act-F.Work e) = is_known p e
 known_act_step p (Act-F.Emit e) = is_known p e
 known_act_step p (Act-F.If e body other) = is_known p e && all_true body && all_in_else other

@@ -1,4 +1,11 @@
 pub mod Kinds
 pub mod Known
+pub mod Every
+pub mod Interference
+pub mod Declarations
+pub mod Rules
 pub mod Refusal
+pub mod Table
+pub mod Touches
+pub mod Walked
 pub mod Accepted

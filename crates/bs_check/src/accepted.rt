@@ -1,10 +1,12 @@
 // A program that was accepted.
-ghost use Rattle.std.specs.Prelude.{◌≡◌, ◌≤◌, IsSome, Some, slice_get};
+ghost use Rattle.std.specs.Prelude.{◌≡◌, ◌≤◌, IsSome, None, Some};
+ghost use Rattle.bs_check.specs.Refusal.{refusal};
 ghost use Rattle.bs_check.specs.Accepted.{HasKinds};
 ghost use Rattle.bs_check.specs.Kinds.{IsPlaced, kind_of};
 ghost use Rattle.bs_semantics.specs.Layout.{all_cells};
 
 use crate::kind::Kind;
+use crate::names::{Names, entry_at};
 use bs_tree::{NameId, Program};
 
 /// A program that keeps the rules of the language, with what its names are declared as.
@@ -13,10 +15,10 @@ pub struct Accepted {
     program: Program,
     kinds: Vec<Option<Kind>>,
     cells: u32,
-    chares: u32,
     ghost has_kinds: { HasKinds program kinds.items },
     ghost has_cells: { cells ≡ all_cells program.vars },
-    ghost has_chares: { chares ≡ program.chares },
+    ghost is_kept: { refusal program ≡ None },
+    ghost has_chares: { program.chares ≤ 65536 },
 }
 
 impl Accepted {
@@ -37,7 +39,7 @@ impl Accepted {
         ensures value { kind_of self.now.program name ≡ Some result }
         ensures placed { IsPlaced self.now.program name result }
     {
-        match kind_at(self.kinds.as_slice(), name.0 as usize) {
+        match entry_at(self.kinds.as_slice(), name.0 as usize) {
             Some(Some(kind)) => kind,
             _ => unreachable!(),
         }
@@ -50,16 +52,27 @@ impl Accepted {
         self.cells
     }
 
-    /// How many chares the program has. It takes no memory.
+    /// How many chares the program has, at most 65,536. It takes no memory.
     pub fn chares(&self) -> u32
         ensures { result ≡ self.now.program.chares }
     {
-        self.chares
+        self.program.chares as u32
     }
 }
 
-fn kind_at(kinds: &[Option<Kind>], at: usize) -> Option<Option<Kind>>
-    ensures { result ≡ slice_get kinds.now at }
+// A program that breaks no rule.
+pub(crate) fn accept(names: Names) -> Accepted
+    requires { refusal names.program ≡ None }
+    ensures { result.program ≡ names.program }
 {
-    kinds.get(at).copied()
+    let Names {
+        program,
+        kinds,
+        cells,
+    } = names;
+    Accepted {
+        program,
+        kinds,
+        cells,
+    }
 }

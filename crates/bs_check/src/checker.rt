@@ -1,10 +1,14 @@
 // Whether a program keeps the rules of the language.
 ghost use Rattle.std.specs.Prelude.{◌≡◌, ◌≢◌, ◌≤◌, IfErr, IfOk, None};
-ghost use Rattle.bs_check.specs.Refusal.{IsRefused, IsWhole, refusal};
+ghost use Rattle.bs_check.specs.Refusal.{IsRefused, IsWhole, declarations_rule, refusal};
 ghost use Rattle.bs_check.specs.declared.fault.CheckFault.TheVariants.{Memory};
 
-use crate::accepted::Accepted;
-use crate::fault::CheckFault;
+use crate::accepted::{Accepted, accept};
+use crate::declarations::{cells_of, declares_twice, keeps_limits, kinds_of};
+use crate::fault::{CheckFault, Rule};
+use crate::names::Names;
+use crate::statements::check_body;
+use crate::touches::Touches;
 use bs_tree::Program;
 use std::alloc::Global;
 
@@ -18,6 +22,30 @@ pub fn check(alloc: Global, program: Program) -> Result<Accepted, CheckFault>
     ensures ok { IfOk result (λ accepted. refusal program ≡ None) }
     ensures err { IfErr result (λ fault. fault ≢ Memory → IsRefused program fault) }
 {
-    let _ = (alloc, program);
-    Err(CheckFault::Memory)
+    let names = declared(alloc, program)?;
+    let mut touches = Touches::new(alloc, names.program.names.as_slice().len())?;
+    check_body(&names, &mut touches, &names.program.body, 1)?;
+    Ok(accept(names))
+}
+
+// A program whose declarations keep all rules, with what its names are declared as.
+fn declared(alloc: Global, program: Program) -> Result<Names, CheckFault>
+    requires { IsWhole program }
+    ensures program { IfOk result (λ names. names.program ≡ program) }
+    ensures ok { IfOk result (λ names. declarations_rule program ≡ None) }
+    ensures err { IfErr result (λ fault. fault ≢ Memory → IsRefused program fault) }
+{
+    if declares_twice(alloc, &program)? {
+        return Err(CheckFault::Refused(0, Rule::TwiceDeclared));
+    }
+    if !keeps_limits(&program) {
+        return Err(CheckFault::Refused(0, Rule::Limits));
+    }
+    let kinds = kinds_of(alloc, &program)?;
+    let cells = cells_of(program.vars.as_slice()) as u32;
+    Ok(Names {
+        program,
+        kinds,
+        cells,
+    })
 }

@@ -1,4 +1,5 @@
 // Why a program is refused.
+use std::alloc::AllocError;
 
 /// A rule of the language that a statement or the declarations break, in the order in which they
 /// are told at one statement.
@@ -26,4 +27,15 @@ pub enum CheckFault {
     /// declarations, and the rule that it breaks.
     Refused(u32, Rule),
     Memory,
+}
+
+impl From<AllocError> for CheckFault {
+    ghost use Rattle.std.specs.Prelude.{◌≡◌};
+    ghost use Rattle.bs_check.specs.declared.fault.CheckFault.TheVariants.{Memory};
+
+    ghost from_gives = { λ _ fault. fault ≡ Memory };
+
+    fn from(_: AllocError) -> CheckFault {
+        CheckFault::Memory
+    }
 }

@@ -5,8 +5,15 @@
 
 mod accepted;
 mod checker;
+mod declarations;
 mod fault;
+mod interference;
 mod kind;
+mod known;
+mod names;
+mod statements;
+mod touches;
+mod uses;
 
 pub use accepted::Accepted;
 pub use checker::check;

@@ -1,5 +1,5 @@
 -- The grammar of programs. `docs/program-text.md` says the same in prose.
-use Rattle.std.specs.Prelude.{◌≡◌, ℕ, zero, suc, ℤ, pos, negsuc, List, [], ◌∷◌, Option, Some, None}
+use Rattle.std.specs.Prelude.{ℕ, zero, suc, ℤ, pos, negsuc, List, [], ◌∷◌, Option, Some, None}
 use Rattle.bs_tree.specs.declared.symbols.Word.{Word}
 use Rattle.bs_tree.specs.declared.symbols.Word.TheVariants as w
 use Rattle.bs_tree.specs.declared.symbols.Mark.{Mark}
@@ -16,7 +16,7 @@ use Rattle.bs_tree.specs.declared.tree.Expr.{Expr}
 use Rattle.bs_tree.specs.declared.tree.Expr.TheVariants as e
 use Rattle.bs_tree.specs.declared.tree.Op2.{Op2}
 use Rattle.bs_tree.specs.declared.tree.Op2.TheVariants as o
-use Rattle.bs_tree.specs.Rule.{Item, Role, opening, outside, operand, operator, Choice, a_name, a_number, the_word, the_mark, an_operator, Inside, whole_number, statements, acts, expression, expressions, names, loop_head, Rule, one, both, many, maybe, either, within, Spells}
+use Rattle.bs_tree.specs.Rule.{Item, Role, opening, outside, operand, operator, a_name, a_number, the_word, the_mark, an_operator, Inside, whole_number, statements, acts, expression, expressions, names, loop_head, Rule, one, both, many, maybe, either, within, Spells}
 
 -- ---- shapes that recur
 

@@ -1,5 +1,7 @@
 pub mod formers
 pub mod Count
+pub mod Reads
+pub mod Spends
 pub mod Symbol
 pub mod Numbered
 pub mod Rule

@@ -1,9 +1,8 @@
 -- The limits of a program text: how many brackets may be open at once, how many operators an
 -- outermost expression may have, and how many statements a program.
 use Rattle.std.specs.Prelude.{◌≡◌, ℕ, suc, pred, List, [], ◌∷◌, Option, Some, None, Bool, true, false, nat_le, ◌&&◌, if◌then◌else◌}
-use Rattle.bs_tree.specs.declared.symbols.Mark.{Mark}
 use Rattle.bs_tree.specs.declared.symbols.Mark.TheVariants as m
-use Rattle.bs_tree.specs.Rule.{Terminal, mark, Role, opening, outside, operand, operator, Item}
+use Rattle.bs_tree.specs.Rule.{Terminal, mark, Role, opening, operand, operator, Item}
 
 -- What the tokens so far come to: the brackets that are open, the operators of two operands since
 -- the beginning of the outermost expression, and the statements begun. As limits, the most there

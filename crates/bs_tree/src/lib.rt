@@ -7,11 +7,13 @@
 
 mod count;
 mod lists;
+mod names;
 mod symbols;
 mod tree;
 
 pub use count::statements;
 pub use lists::List;
+pub use names::{reads, spends, writes};
 pub use sqlite_items::Boxed;
 pub use symbols::{Mark, Word};
 pub use tree::{Act, EntryDecl, Expr, Name, NameId, Op2, Path, Program, Stmt, VarDecl, Wait};

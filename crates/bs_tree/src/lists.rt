@@ -1,5 +1,5 @@
 // A vector that contracts see as the list of its items.
-ghost use Rattle.std.specs.Prelude.{◌≡◌, ◌++◌, ◌∷◌, [], OnErr, OnOk};
+ghost use Rattle.std.specs.Prelude.{◌≡◌, ◌++◌, ◌∷◌, [], IfErr, OnErr, OnOk};
 
 use std::alloc::{AllocError, Global};
 use std::marker::Model;
@@ -62,5 +62,19 @@ impl<T: Drop> List<T> {
     {
         self.items.push(item)?;
         Ok(())
+    }
+
+    /// Puts an item behind the last one, or hands it back where memory is wanting. The list then stays
+    /// as it was.
+    pub fn push_or_return(&mut self, item: T) -> Result<(), T>
+        ensures ok { OnOk result (self.new ≡ self.old ++ item ∷ []) }
+        ensures err { IfErr result (λ returned. (returned ≡ item) × (self.new ≡ self.old)) }
+    {
+        if self.items.reserve(1).is_ok() {
+            self.items.push_reserved(item);
+            Ok(())
+        } else {
+            Err(item)
+        }
     }
 }

@@ -1,4 +1,6 @@
-use crate::{Act, Boxed, Expr, List, Name, NameId, Op2, Stmt, Wait, statements};
+use crate::{
+    Act, Boxed, Expr, List, Name, NameId, Op2, Stmt, Wait, reads, spends, statements, writes,
+};
 use std::alloc::{AllocError, Global};
 use std::test::Fail;
 
@@ -9,8 +11,10 @@ fn a_list_keeps_its_items_in_order(rt: HostRuntime) -> Result<(), Fail> {
     list.push(3u32)?;
     list.push(1)?;
     assert_eq!(rt; list.as_slice(), [3, 1].as_slice());
+    assert!(rt; list.push_or_return(4).is_ok());
+    assert_eq!(rt; list.as_slice(), [3, 1, 4].as_slice());
     let items = list.into_vec();
-    assert_eq!(rt; List::from_vec(items).as_slice(), [3, 1].as_slice());
+    assert_eq!(rt; List::from_vec(items).as_slice(), [3, 1, 4].as_slice());
     Ok(())
 }
 
@@ -49,6 +53,29 @@ fn body(alloc: Global) -> Result<List<Stmt>, AllocError> {
 fn each_statement_counts_once(rt: HostRuntime) -> Result<(), Fail> {
     assert_eq!(rt; statements(&List::new(rt.alloc())), 0);
     assert_eq!(rt; statements(&body(rt.alloc())?), 5);
+    Ok(())
+}
+
+#[test]
+fn a_wait_writes_its_parameters_and_an_expression_is_read(rt: HostRuntime) -> Result<(), Fail> {
+    let (x, go) = (NameId(0), NameId(1));
+    let body = body(rt.alloc())?;
+    let [wait, choice] = body.as_slice() else {
+        return Ok(());
+    };
+    assert_eq!(rt; (writes(wait, x), reads(wait, x)), (true, true));
+    assert_eq!(rt; (writes(choice, x), reads(choice, x)), (false, true));
+    assert_eq!(rt; (writes(wait, go), reads(wait, go)), (false, false));
+    Ok(())
+}
+
+#[test]
+fn a_statement_spends_where_each_way_through_it_does(rt: HostRuntime) -> Result<(), Fail> {
+    let body = body(rt.alloc())?;
+    let [wait, choice] = body.as_slice() else {
+        return Ok(());
+    };
+    assert_eq!(rt; (spends(wait), spends(choice)), (true, false));
     Ok(())
 }
 

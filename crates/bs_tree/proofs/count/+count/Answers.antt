@@ -1,4 +1,4 @@
-use Rattle.std.proofs.Common.{◌≡◌, arith}
+use Rattle.std.proofs.Common.{arith}
 use Rattle.std.proofs.lemmas.List.{at_drop_all}
 use Rattle.bs_tree.specs.Count.{statements_in}
 use Rattle.bs_tree.proofs.count.+count.Goals as goal
