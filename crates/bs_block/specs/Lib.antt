@@ -6,3 +6,4 @@ pub mod Sending
 pub mod Block
 pub mod Draft
 pub mod DraftFields
+pub mod Example

@@ -18,3 +18,6 @@ pub use block::run_block;
 pub use done::{BlockDone, BlockFault, Send};
 pub use env::Env;
 pub use expression::eval;
+
+#[cfg(test)]
+mod tests;
