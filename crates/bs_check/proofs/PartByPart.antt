@@ -4,7 +4,7 @@ use Rattle.bs_tree.specs.declared.tree.NameId.{NameId}
 use Rattle.bs_tree.specs.declared.tree.Stmt.{Stmt}
 use Rattle.bs_tree.specs.Reads.{stmt_reads, stmt_writes}
 use Rattle.bs_check.specs.declared.touches.Touches.{Touches}
-use Rattle.bs_check.specs.Touches.{Seen, note, seen, size, IsBehind, Noted, Follows, after_parts}
+use Rattle.bs_check.specs.Touches.{Seen, note, seen, size, IsBehind, IsFlagged, Noted, Follows, after_parts}
 use Rattle.bs_check.proofs.Rows.{drop_item}
 
 -- only the part that is looked at differs
@@ -14,15 +14,17 @@ record Turned (now turned : Touches) (k : ℕ) : Type 0 where
   same_overlap : turned.overlap ≡ now.overlap
   part : turned.part ≡ k
   behind : (n : ℕ) → IsBehind now n → IsBehind turned n
+  flagged : IsFlagged now → IsFlagged turned
 
 turned_is : (now turned : Touches) (k : ℕ) → turned ≡ record now { part = k } → Turned now turned k
-unfolding seen IsBehind
+unfolding seen IsBehind IsFlagged
 turned_is now turned k e = record {
   same_seen = λ name. rw e refl;
   same_size = rw e refl;
   same_overlap = rw e refl;
   part = rw e refl;
   behind = λ n h. rw e h;
+  flagged = λ h. rw e h;
 }
 
 pub follows_next : (start now turned next : Touches) (k : ℕ) (reads writes : NameId → Bool) → Follows start now → turned ≡ record now { part = k } → Noted turned next reads writes → Follows start next
@@ -32,6 +34,7 @@ follows_next start now turned next k reads writes follows e noted =
       size = noted.keeps.size ∙ t.same_size ∙ follows.size;
       overlap = noted.keeps.overlap ∙ t.same_overlap ∙ follows.overlap;
       behind = λ n l h. noted.keeps.behind n (rw (t.same_overlap, follows.overlap) l) (t.behind n (follows.behind n l h));
+      flagged = λ h. noted.keeps.flagged (t.flagged (follows.flagged h));
     }
 
 pub parts_next : (start now turned next : Touches) (k : ℕ) (xs : List Stmt) (i : ℕ) (x : Stmt) (name : NameId) (all : Seen) → i < length xs → x ≡ get_or xs i x → Follows start now → turned ≡ record now { part = k } →

@@ -1,5 +1,5 @@
 -- The rows of the table of touches.
-use Rattle.std.proofs.Common.{◌≡◌, ◌≢◌, ◌<◌, ◌≤◌, ◌==◌, ◌+◌, ◌||◌, ◌∙◌, ℕ, zero, suc, Bool, true, false, if◌then◌else◌, List, [], ◌∷◌, length, get_or, set, slice_get, drop, map, Option, Some, None, refl, subst, sym, ap, eqb-true, eq-eqb, All, length-set, arith}
+use Rattle.std.proofs.Common.{◌≡◌, ◌≢◌, ◌<◌, ◌≤◌, ◌==◌, ◌+◌, ◌||◌, ◌∙◌, ℕ, zero, suc, Bool, true, false, if◌then◌else◌, List, [], ◌∷◌, length, get_or, set, slice_get, drop, map, Option, Some, None, refl, subst, sym, ap, eqb-true, eq-eqb, All, length-set, arith, is_some}
 use Rattle.std.proofs.Math.Bool.{or_assoc}
 use Rattle.std.proofs.lemmas.Bool.{eqb-false, ne_eqb}
 use Rattle.std.proofs.lemmas.List.{get_or-set_same, drop_more, at_drop_all}
@@ -8,7 +8,8 @@ use Rattle.bs_tree.specs.declared.tree.NameId.{NameId}
 use Rattle.bs_tree.specs.Reads.{any_true, is_same}
 use Rattle.bs_check.specs.declared.touches.Touch.{Touch}
 use Rattle.bs_check.specs.declared.touches.Touches.{Touches}
-use Rattle.bs_check.specs.Touches.{Holder, Seen, or_part, held, touched, note, seen_in, seen_if, seen, size, IsBehind, Keeps, Noted}
+use Rattle.bs_check.specs.Touches.{Holder, Seen, or_part, held, touched, note, seen_in, seen_if, seen, size, IsBehind, Keeps, Noted, IsFlagged, pair_of, shared_from}
+use Rattle.bs_tree.specs.declared.tree.VarDecl.{VarDecl}
 
 -- rows of earlier `overlap`s count as empty
 nothing_in : (o : ℕ) (xs : List Touch) (n : ℕ) → All (λ t. t.overlap < o) xs → seen_if o (slice_get xs n) ≡ None
@@ -16,11 +17,11 @@ nothing_in o [] n h = refl
 nothing_in o (x ∷ xs) zero h = let less = h 0 x (omega arith) in let other : x.overlap ≢ o = omega arith in rw (ne_eqb x.overlap o other) refl
 nothing_in o (x ∷ xs) (suc n) h = nothing_in o xs n (λ k d l. h (suc k) d (omega arith))
 
-pub nothing_yet : (ts : Touches) (o : ℕ) (name : NameId) → IsBehind ts o → seen (record ts { overlap = o }) name ≡ None
+pub nothing_yet : (ts : Touches) (o : ℕ) (name : NameId) → IsBehind ts o → seen (record ts { overlap = o; clashes = false }) name ≡ None
 unfolding seen IsBehind
 nothing_yet ts o name h = nothing_in o ts.touches.items name.0 h
 
-pub behind_next : (ts : Touches) (o : ℕ) → IsBehind ts o → IsBehind (record ts { overlap = o }) (o + 1)
+pub behind_next : (ts : Touches) (o : ℕ) → IsBehind ts o → IsBehind (record ts { overlap = o; clashes = false }) (o + 1)
 unfolding IsBehind
 behind_next ts o h k d l = let less = h k d l in omega arith
 
@@ -48,6 +49,44 @@ touched_row o part w xs i n t true e h s =
 touched_row o part w xs i n t false e h s =
     let other : n ≢ i = λ q. eqb-false i n e (sym q) in
     ap (seen_if o) (get_set_other xs i n t other)
+
+-- ---- where no two parts clash
+
+neither : (a b : Bool) → (a || b) ≡ false → (a ≡ false) × (b ≡ false)
+neither true b h = absurd (cc)
+neither false b h = (refl, h)
+
+none_here : (o : Option ℕ) → is_some o ≡ false → o ≡ None
+none_here None h = refl
+none_here (Some k) h = absurd (cc)
+
+no_pair_row : (o part : ℕ) (w b : Bool) → pair_of (if b then Some (record { part = part; writes = w; other = None }) else None) ≡ None
+no_pair_row o part w true = refl
+no_pair_row o part w false = refl
+
+no_pair_of : (o : ℕ) (t : Touch) → t.other ≡ None → pair_of (seen_in o t) ≡ None
+no_pair_of o t h = rw h (no_pair_row o t.part t.writes (t.overlap == o))
+
+no_pair_in : (o : ℕ) (xs : List Touch) (i n : ℕ) (t : Touch) (b : Bool) → (i == n) ≡ b → i < length xs → t.other ≡ None → ((m : ℕ) → pair_of (seen_if o (slice_get xs m)) ≡ None) → pair_of (seen_if o (slice_get (set xs i t) n)) ≡ None
+no_pair_in o xs i n t true e h none all = let same = eqb-true i n e in rw (← same, get_set_same xs i t h) (no_pair_of o t none)
+no_pair_in o xs i n t false e h none all =
+    let other : n ≢ i = λ q. eqb-false i n e (sym q) in
+    rw (get_set_other xs i n t other) (all n)
+
+pub flagged_touch : (ts : Touches) (i : ℕ) (t : Touch) (clashes : Bool) → i < length ts.touches.items → clashes ≡ (ts.clashes || is_some t.other) → IsFlagged ts → clashes ≡ false → (name : NameId) → pair_of (seen_if ts.overlap (slice_get (set ts.touches.items i t) name.0)) ≡ None
+unfolding IsFlagged seen
+flagged_touch ts i t clashes within is flagged none name =
+    let both = neither ts.clashes (is_some t.other) (sym is ∙ none) in
+    no_pair_in ts.overlap ts.touches.items i name.0 t (i == name.0) refl within (none_here t.other both.1) (λ m. flagged both.0 (record { 0 = m }))
+
+pub flagged_start : (ts : Touches) → ((name : NameId) → seen ts name ≡ None) → IsFlagged ts
+unfolding IsFlagged
+flagged_start ts nothing none name = rw (nothing name) refl
+
+pub unshared : (ts : Touches) → IsFlagged ts → ts.clashes ≡ false → (v : ℕ) (vs : List VarDecl) → shared_from v vs ts ≡ None
+unfolding IsFlagged
+unshared ts flagged none v [] = refl
+unshared ts flagged none v (d ∷ ds) = rw (flagged none d.name, unshared ts flagged none (v + 1) ds) refl
 
 same_number : (n : ℕ) → (n == n) ≡ true
 same_number n = eq-eqb n n refl
@@ -96,10 +135,11 @@ keeps_then one two = record {
   overlap = two.overlap ∙ one.overlap;
   part = two.part ∙ one.part;
   behind = λ n l h. two.behind n (rw one.overlap l) (one.behind n l h);
+  flagged = λ h. two.flagged (one.flagged h);
 }
 
 pub keeps_itself : (a : Touches) → Keeps a a
-keeps_itself a = record { size = refl; overlap = refl; part = refl; behind = λ n l h. h }
+keeps_itself a = record { size = refl; overlap = refl; part = refl; behind = λ n l h. h; flagged = λ h. h }
 
 -- nothing was looked at
 pub noted_none : (a : Touches) → Noted a a (λ n. false) (λ n. false)

@@ -53,11 +53,24 @@ size ts = length ts.touches.items
 unfoldable pub IsBehind : Touches → ℕ → Type 0
 IsBehind ts overlap = All (λ t. t.overlap < overlap) ts.touches.items
 
+abbrev pub pair_with : ℕ → Option ℕ → Option Pair
+pair_with k None = None
+pair_with k (Some j) = Some (record { one = k; other = j })
+
+abbrev pub pair_of : Seen → Option Pair
+pair_of None = None
+pair_of (Some h) = pair_with h.part h.other
+
+-- where the table says that no two parts clash, none do
+unfoldable pub IsFlagged : Touches → Type 0
+IsFlagged ts = ts.clashes ≡ false → (name : NameId) → pair_of (seen ts name) ≡ None
+
 pub record Keeps (old new : Touches) : Type 0 where
   pub size : size new ≡ size old
   pub overlap : new.overlap ≡ old.overlap
   pub part : new.part ≡ old.part
   pub behind : (n : ℕ) → old.overlap < n → IsBehind old n → IsBehind new n
+  pub flagged : IsFlagged old → IsFlagged new
 
 -- something that reads and writes these names was looked at
 pub record Noted (old new : Touches) (reads writes : NameId → Bool) : Type 0 where
@@ -69,19 +82,12 @@ pub record Follows (old new : Touches) : Type 0 where
   pub size : size new ≡ size old
   pub overlap : new.overlap ≡ old.overlap
   pub behind : (n : ℕ) → old.overlap < n → IsBehind old n → IsBehind new n
+  pub flagged : IsFlagged old → IsFlagged new
 
 -- once parts, the first of which has this number, were looked at
 abbrev pub after_parts : NameId → ℕ → List Stmt → Seen → Seen
 after_parts name k [] s = s
 after_parts name k (a ∷ parts) s = after_parts name (k + 1) parts (note k (stmt_reads name a) (stmt_writes name a) s)
-
-abbrev pub pair_with : ℕ → Option ℕ → Option Pair
-pair_with k None = None
-pair_with k (Some j) = Some (record { one = k; other = j })
-
-abbrev pub pair_of : Seen → Option Pair
-pair_of None = None
-pair_of (Some h) = pair_with h.part h.other
 
 -- among variables, the first of which has this number, the first for which a clash stands in the table
 abbrev pub shared_from : ℕ → List VarDecl → Touches → Option Rule

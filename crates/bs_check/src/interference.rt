@@ -1,7 +1,7 @@
 // Which variable two parts of an `overlap` share, where one of them writes it.
 ghost use Rattle.std.specs.Prelude.{◌≡◌, ◌+◌, ◌<◌, ◌≤◌, All, length};
 ghost use Rattle.bs_check.specs.Interference.{interference_from};
-ghost use Rattle.bs_check.specs.Touches.{Follows, IsBehind, after_parts, seen, shared_from, size};
+ghost use Rattle.bs_check.specs.Touches.{Follows, IsBehind, IsFlagged, after_parts, seen, shared_from, size};
 ghost use Rattle.bs_tree.specs.declared.tree.NameId.{NameId as TheName};
 
 use crate::fault::Rule;
@@ -43,9 +43,13 @@ fn note_parts(touches: &mut Touches, parts: &List<Stmt>)
 }
 
 fn first_shared(touches: &Touches, vars: &[VarDecl]) -> Option<Rule>
-    requires { length vars.now ≤ 1000 }
+    requires few { length vars.now ≤ 1000 }
+    requires flagged { IsFlagged touches.now }
     ensures { result ≡ shared_from 0 vars.now touches.now }
 {
+    if !touches.may_clash() {
+        return None;
+    }
     let mut number: u32 = 0;
     for var in vars {
         if let Some(rule) = touches.shared(var.name, number) {

@@ -1,7 +1,7 @@
 // Which parts of an `overlap` touch a variable.
-ghost use Rattle.std.specs.Prelude.{◌≡◌, ◌+◌, ◌<◌, IfOk, None, false, if◌then◌else◌, slice_get};
+ghost use Rattle.std.specs.Prelude.{◌≡◌, ◌+◌, ◌<◌, ◌||◌, is_some, IfOk, None, false, if◌then◌else◌, slice_get};
 ghost use Rattle.bs_check.specs.Interference.{or_else_rule};
-ghost use Rattle.bs_check.specs.Touches.{IsBehind, Keeps, Noted, pair_of, seen, seen_in, size, touched};
+ghost use Rattle.bs_check.specs.Touches.{IsBehind, IsFlagged, Keeps, Noted, pair_of, seen, seen_in, size, touched};
 ghost use Rattle.bs_tree.specs.Reads.{is_same};
 ghost use Rattle.bs_tree.specs.declared.tree.NameId.{NameId as TheName};
 
@@ -19,13 +19,14 @@ pub(crate) struct Touch {
     other: Option<u32>,
 }
 
-// A row for each name, and the `overlap` and the part that are looked at. Rows of other `overlap`s
-// count as empty, so a new one begins without clearing them.
+// A row for each name, the `overlap` and the part that are looked at, and whether two of its parts clash
+// for some name. Rows of other `overlap`s count as empty, so a new one begins without clearing them.
 #[derive(Debug, Drop)]
 pub(crate) struct Touches {
     touches: Vec<Touch>,
     overlap: u32,
     part: u32,
+    clashes: bool,
 }
 
 impl Touches {
@@ -43,6 +44,7 @@ impl Touches {
             touches: vec![in alloc; nothing; names]?,
             overlap: 0,
             part: 0,
+            clashes: false,
         })
     }
 
@@ -53,8 +55,10 @@ impl Touches {
         ensures behind { IsBehind self.new (overlap + 1) }
         ensures overlap { self.new.overlap ≡ overlap }
         ensures nothing { (name : TheName) → seen self.new name ≡ None }
+        ensures flagged { IsFlagged self.new }
     {
         self.overlap = overlap;
+        self.clashes = false;
     }
 
     pub(crate) fn turn_to(&mut self, part: u32)
@@ -75,6 +79,13 @@ impl Touches {
         self.touch(name, true);
     }
 
+    // Whether two parts may clash.
+    pub(crate) fn may_clash(&self) -> bool
+        ensures { result ≡ self.now.clashes }
+    {
+        self.clashes
+    }
+
     // The interference for the variable of this name, whose number is given.
     #[tactic(auto, unfolding(crate::specs::Touches::seen))]
     pub(crate) fn shared(&self, name: NameId, number: u32) -> Option<Rule>
@@ -92,7 +103,9 @@ impl Touches {
     {
         let at = name.0 as usize;
         if at < self.touches.len() {
-            self.touches[at] = touched_by(self.touches[at], self.overlap, self.part, writes);
+            let touch = touched_by(self.touches[at], self.overlap, self.part, writes);
+            self.clashes = has_clash(self.clashes, touch);
+            self.touches[at] = touch;
         }
     }
 }
@@ -121,6 +134,12 @@ fn touched_by(touch: Touch, overlap: u32, part: u32, writes: bool) -> Touch
     } else {
         touch
     }
+}
+
+fn has_clash(clashes: bool, touch: Touch) -> bool
+    ensures { result ≡ (clashes || is_some touch.other) }
+{
+    clashes || touch.other.is_some()
 }
 
 fn row_at(touches: &[Touch], at: usize) -> Option<Touch>
