@@ -30,7 +30,7 @@ use Rattle.bs_log.proofs.Decided.{SomeOf, never, le_is, all_each, all_as_each, a
 path_is : (p q : Path) → p.0 ≡ q.0 → p ≡ q
 path_is p q e = let f : List ℕ → Path = λ l. record { 0 = l } in ap f e
 
-same_path_is : (p q : Path) → Decides (same_path p q) (p ≡ q)
+pub same_path_is : (p q : Path) → Decides (same_path p q) (p ≡ q)
 same_path_is p q = Decides-like _ (path_is p q) (ap (λ (r : Path). r.0)) (bytes_eq-Decides p.0 q.0)
 
 same_origin_is : (a b : Origin) → Decides (same_origin a b) (a ≡ b)
@@ -63,7 +63,7 @@ message_symm a b = and_alike _ _ _ _ (nat_eq_equiv.symm a.sent.to b.sent.to) (ke
 
 -- the paths rise
 
-lt_is : (o : Ordering) → Decides (is_lt o) (o ≡ Less)
+pub lt_is : (o : Ordering) → Decides (is_lt o) (o ≡ Less)
 lt_is Less = (λ e. refl, λ e. refl)
 lt_is Equal = (λ e. absurd (false≢true e), λ e. ap is_lt e)
 lt_is Greater = (λ e. absurd (false≢true e), λ e. ap is_lt e)
@@ -82,7 +82,7 @@ rises_after p (x ∷ xs) = Decides-like _ more parts (Decides-and (is_below p x.
     parts : ((y : Block) → Mem y (x ∷ xs) → IsBelow p y.path) × Rising (x ∷ xs) → IsBelow p x.path × (((y : Block) → Mem y xs → IsBelow x.path y.path) × Rising xs)
     parts k = (k.0 x (inl refl), k.1)
 
-rising_is : (xs : List Block) → Decides (rise xs) (Rising xs)
+pub rising_is : (xs : List Block) → Decides (rise xs) (Rising xs)
 unfolding rise
 rising_is [] = (λ e. tt, λ h. refl)
 rising_is (x ∷ xs) = rises_after x.path xs
@@ -144,7 +144,7 @@ by_history [] h m i k = absurd i
 by_history (x ∷ xs) h m (inl e) i = in_front m (sends_of x.blocks) (sent xs) (subst (λ (z : History). Mem m (sends_of z.blocks)) e i)
 by_history (x ∷ xs) h m (inr k) i = behind m (sends_of x.blocks) (sent xs) (by_history xs h m k i)
 
-its_block : (bs : List Block) (m : Message) → Mem m (sends_of bs) → SomeOf (λ b. Mem m b.sends) bs
+pub its_block : (bs : List Block) (m : Message) → Mem m (sends_of bs) → SomeOf (λ b. Mem m b.sends) bs
 its_block [] m i = absurd i
 its_block (x ∷ xs) m i = which (either m x.sends (sends_of xs) i) (its_block xs m)
   where
@@ -152,7 +152,7 @@ its_block (x ∷ xs) m i = which (either m x.sends (sends_of xs) i) (its_block x
     which (inl k) f = record { one = x; is_in = inl refl; holds = k }
     which (inr k) f = let s = f k in record { one = s.one; is_in = inr s.is_in; holds = s.holds }
 
-its_history : (hs : List History) (m : Message) → Mem m (sent hs) → SomeOf (λ h. Mem m (sends_of h.blocks)) hs
+pub its_history : (hs : List History) (m : Message) → Mem m (sent hs) → SomeOf (λ h. Mem m (sends_of h.blocks)) hs
 its_history [] m i = absurd i
 its_history (x ∷ xs) m i = which (either m (sends_of x.blocks) (sent xs) i) (its_history xs m)
   where

@@ -1,2 +1,4 @@
 pub mod ClosedTests
 pub mod Decided
+pub mod Links
+pub mod Numbers

@@ -4,14 +4,18 @@
 #![tactic(auto)]
 
 mod closed;
+mod collected;
 mod ending;
 mod history;
 mod log;
 mod messages;
+mod numbering;
 mod outcome;
+mod rows;
 mod sizes;
 
 pub use closed::is_closed;
+pub use collected::collect;
 pub use ending::end;
 pub use history::{Asked, Block, History, Key, Message, Origin, Sent, TrapAt, TrapKind, WaitAt};
 pub use log::{Log, MailRef, Row, TrapRow, WaitRow};

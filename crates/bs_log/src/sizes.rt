@@ -9,9 +9,9 @@ use crate::history::{Block, History};
 pub fn size(history: &History) -> u64
     ensures { result ≡ min (size_of history.now) (2 ^ 64 - 1) }
 {
-    let mut size = count(history.asked.as_slice().len()).saturating_add(count(
-        history.traps.as_slice().len(),
-    ));
+    let asked = count(history.asked.as_slice().len());
+    let traps = count(history.traps.as_slice().len());
+    let mut size = asked.saturating_add(traps);
     for block in history.blocks.as_slice() {
         size = size.saturating_add(block_size(block));
     }
@@ -22,13 +22,15 @@ pub fn size(history: &History) -> u64
 fn block_size(block: &Block) -> u64
     ensures { result ≡ min (block_size_of block.now) (2 ^ 64 - 1) }
 {
-    let causes = count(block.after.as_slice().len()).saturating_add(count(
-        block.mail.as_slice().len(),
-    ));
-    let gives = count(block.sends.as_slice().len()).saturating_add(count(
-        block.emits.as_slice().len(),
-    ));
-    causes.saturating_add(gives).saturating_add(1)
+    let after = count(block.after.as_slice().len());
+    let mail = count(block.mail.as_slice().len());
+    let sends = count(block.sends.as_slice().len());
+    let emits = count(block.emits.as_slice().len());
+    let causes = after.saturating_add(mail);
+    causes
+        .saturating_add(sends)
+        .saturating_add(emits)
+        .saturating_add(1)
 }
 
 // A number of items, as a `u64`.
