@@ -21,3 +21,6 @@ pub use history::{Asked, Block, History, Key, Message, Origin, Sent, TrapAt, Tra
 pub use log::{Log, MailRef, Row, TrapRow, WaitRow};
 pub use outcome::{End, OutRow, Outcome};
 pub use sizes::size;
+
+#[cfg(test)]
+mod tests;
