@@ -18,6 +18,7 @@ pub struct Accepted {
     ghost has_kinds: { HasKinds program kinds.items },
     ghost has_cells: { cells ≡ all_cells program.vars },
     ghost is_kept: { refusal program ≡ None },
+    ghost has_chares: { program.chares ≤ 65536 },
 }
 
 impl Accepted {
@@ -49,6 +50,13 @@ impl Accepted {
         ensures { result ≡ all_cells self.now.program.vars }
     {
         self.cells
+    }
+
+    /// How many chares the program has, at most 65,536. It takes no memory.
+    pub fn chares(&self) -> u32
+        ensures { result ≡ self.now.program.chares }
+    {
+        self.program.chares as u32
     }
 }
 
