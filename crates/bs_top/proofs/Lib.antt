@@ -3,6 +3,7 @@ mod Kept
 mod Reading
 mod Machines
 mod Simulating
+mod Wholes
 mod Replying
 mod Told
 mod OneStep

@@ -2,6 +2,11 @@
 use Rattle.std.proofs.Common.{◌≡◌, ℕ, List, refl, sym, ap, ◌∙◌, subst, Option, Some, None, Ok, Err, Result}
 use Rattle.std.specs.FinMap as map
 use Rattle.bs_desk.specs.Outside.{Files}
+use Rattle.bs_check.specs.Refusal.{Broken, IsRefused, refusal}
+use Rattle.bs_check.specs.declared.fault.CheckFault.{CheckFault}
+use Rattle.bs_check.specs.declared.fault.CheckFault.TheVariants as check
+use Rattle.bs_log.specs.declared.outcome.End.TheVariants as end
+use Rattle.bs_print.specs.Canonical.{text_of}
 use Rattle.bs_log.specs.declared.outcome.Outcome.{Outcome}
 use Rattle.bs_machine.specs.File.{machine_in}
 use Rattle.bs_machine.specs.Machine.{MachineOf, flat_in}
@@ -13,9 +18,9 @@ use Rattle.bs_semantics.specs.Serial.{IsSerial, Machine, Simulated, timed}
 use Rattle.bs_small.specs.Machine.{machine_of}
 use Rattle.bs_tree.specs.declared.tree.Program.{Program}
 use Rattle.bs_top.specs.declared.stop.Stop.TheVariants.{Refused}
-use Rattle.bs_top.specs.Answer.{Answer, IsAnswer, IsReport, answer_of, contents, fits, is_built, machine_named, or_bad_machine, program_in, reply_to, run, simulated, whole}
+use Rattle.bs_top.specs.Answer.{Answer, IsAnswer, IsReport, accepted, answer_of, checked, contents, fits, is_built, machine_named, or_bad_machine, program_in, reply_to, run, simulated, whole}
 use Rattle.bs_top.specs.Step.{Said, and_then, gives}
-use Rattle.bs_top.specs.Words.{Asked, model, MachineWord, flat, file, size_limit}
+use Rattle.bs_top.specs.Words.{Asked, check as check_asked, model, MachineWord, flat, file, size_limit}
 use Rattle.bs_top.proofs.OneMachine.{one_machine}
 use Rattle.bs_top.proofs.OneStep.{IsOne, one_after, one_given}
 
@@ -45,6 +50,28 @@ one_built p (Ok a) (Err s) h k = absurd (k.1 h.0 h.1)
 one_built p (Err r) (Ok b) h k = absurd (h.1 k.0 k.1)
 one_built p (Err r) (Err s) h k = ap (λ t. Err t) (h.0 ∙ sym k.0)
 
+same_broken : (o : Option Broken) (a b : Broken) → o ≡ Some a → o ≡ Some b → a ≡ b
+same_broken o a b h k = cc
+
+no_refusal : {B : Type 0} (o : Option Broken) {a : Broken} → o ≡ None → o ≡ Some a → B
+no_refusal o h k = absurd (cc)
+
+broken_is : (p : Program) (a b : CheckFault) → IsRefused p a → IsRefused p b → a ≡ b
+broken_is p (check.Refused s r) (check.Refused t q) h k = ap (λ (w : Broken). check.Refused w.stmt w.rule) (same_broken (refusal p) (record { stmt = s; rule = r }) (record { stmt = t; rule = q }) h k)
+broken_is p (check.Refused s r) check.Memory h k = absurd k
+broken_is p check.Memory b h k = absurd h
+
+not_refused : (p : Program) (why : CheckFault) → refusal p ≡ None → IsRefused p why → ⊥
+not_refused p (check.Refused s r) h k = no_refusal (refusal p) h k
+not_refused p check.Memory h k = k
+
+one_checked : (p : Program) → IsOne (checked p)
+unfolding checked
+one_checked p (Ok a) (Ok b) h k = refl
+one_checked p (Ok a) (Err s) h k = absurd (not_refused p k.0 h k.1)
+one_checked p (Err r) (Ok b) h k = absurd (not_refused p h.0 k h.1)
+one_checked p (Err r) (Err s) h k = ap (λ t. Err t) (h.2 ∙ ap (λ f. Refused (fault.CheckFailed f)) (broken_is p h.0 k.0 h.1 k.1) ∙ sym k.2)
+
 module _ (program : OneProgram) (fault_is : OneFault) (not_both : NotBoth) (serial : OneSerial) where
   one_program : (text : List ℕ) → IsOne (program_in text)
   unfolding program_in
@@ -66,16 +93,25 @@ module _ (program : OneProgram) (fault_is : OneFault) (not_both : NotBoth) (seri
 
   one_simulated : (p : Program) (m : MachineOf) → IsOne (simulated p m)
   unfolding simulated
-  one_simulated p m = one_after (is_built p) (λ _. and_then (fits p.chares m) (λ _. run p m)) (one_built p)
-      (λ _. one_after (fits p.chares m) (λ _. run p m) (one_fit p.chares m) (λ _. one_run p m))
+  one_simulated p m = one_after (fits p.chares m) (λ _. and_then (is_built p) (λ _. run p m)) (one_fit p.chares m)
+      (λ _. one_after (is_built p) (λ _. run p m) (one_built p) (λ _. one_run p m))
+
+  one_accepted : (files : Files) (name : List ℕ) → IsOne (accepted files name)
+  unfolding accepted
+  one_accepted files name =
+      one_after (contents files name) (λ text. and_then (program_in text) (λ p. and_then (checked p) (λ _. gives (Ok p)))) (one_contents files name)
+      (λ text. one_after (program_in text) (λ p. and_then (checked p) (λ _. gives (Ok p))) (one_program text)
+      (λ p. one_after (checked p) (λ _. gives (Ok p)) (one_checked p) (λ _. one_given (Ok p))))
 
   one_reply : (files : Files) (asked : Option Asked) → IsOne (reply_to files asked)
   unfolding reply_to
   one_reply files None = one_given (Err (Refused fault.BadWords))
+  one_reply files (Some (check_asked name)) =
+      one_after (accepted files name) (λ p. gives (Ok (record { end = end.Settled; text = text_of p }))) (one_accepted files name)
+      (λ p. one_given (Ok (record { end = end.Settled; text = text_of p })))
   one_reply files (Some (model name word)) =
-      one_after (contents files name) (λ text. and_then (program_in text) (λ p. and_then (machine_named files word) (λ m. simulated p m))) (one_contents files name)
-      (λ text. one_after (program_in text) (λ p. and_then (machine_named files word) (λ m. simulated p m)) (one_program text)
-      (λ p. one_after (machine_named files word) (λ m. simulated p m) (one_named files word) (λ m. one_simulated p m)))
+      one_after (accepted files name) (λ p. and_then (machine_named files word) (λ m. simulated p m)) (one_accepted files name)
+      (λ p. one_after (machine_named files word) (λ m. simulated p m) (one_named files word) (λ m. one_simulated p m))
 
   pub one : (files : Files) (asked : Option Asked) (a b : Answer) → IsAnswer files asked a → IsAnswer files asked b → a ≡ b
   one files asked a b h k = h.is_answer ∙ ap answer_of (one_reply files asked h.reply k.reply h.is_reply k.is_reply) ∙ sym k.is_answer

@@ -1,6 +1,10 @@
 -- What comes of a command, from its steps.
-use Rattle.std.proofs.Common.{◌≡◌, ◌≢◌, ℕ, List, refl, sym, ap, ◌∙◌, subst, Option, Some, None, Result, Ok, Err}
+use Rattle.std.proofs.Common.{◌≡◌, ◌≢◌, ℕ, List, refl, sym, ap, ◌∙◌, subst, inl, Option, Some, None, Result, Ok, Err}
 use Rattle.bs_desk.specs.Outside.{Files}
+use Rattle.std.specs.Prelude.{IfOk}
+use Rattle.bs_check.specs.declared.accepted.Accepted.{Accepted}
+use Rattle.bs_log.specs.declared.outcome.End.TheVariants as end
+use Rattle.bs_print.specs.Canonical.{text_of}
 use Rattle.bs_machine.specs.Machine.{MachineOf, machine_view}
 use Rattle.bs_words.specs.declared.command.Command.{Command}
 use Rattle.bs_words.specs.declared.fault.WordsFault.{WordsFault}
@@ -9,42 +13,74 @@ use Rattle.bs_report.specs.declared.faults.Fault.TheVariants as fault
 use Rattle.std.specs.Option.{option_and_then, option_map}
 use Rattle.bs_top.specs.declared.stop.Reply.{Reply}
 use Rattle.bs_top.specs.declared.stop.Stop.{Stop}
-use Rattle.bs_top.specs.declared.stop.Stop.TheVariants.{Refused}
-use Rattle.bs_top.specs.Answer.{contents, machine_named, program_in, reply_to, simulated}
+use Rattle.bs_top.specs.declared.stop.Stop.TheVariants.{Refused, NoFile, ReadFault, Memory}
+use Rattle.bs_top.specs.Answer.{accepted, checked, contents, machine_named, program_in, reply_to, simulated}
 use Rattle.bs_top.specs.declared.asked.Asked.{Asked as AskedFor}
 use Rattle.bs_top.specs.Seen.{asked_of, said_of}
-use Rattle.bs_top.specs.Step.{Told, and_then}
+use Rattle.bs_top.specs.Step.{Said, Told, and_then, gives}
 use Rattle.bs_top.specs.Stops.{stop_for_words}
-use Rattle.bs_top.specs.Words.{Asked, model, MachineWord, built}
+use Rattle.bs_top.specs.Words.{Asked, check, model, MachineWord, built}
 use Rattle.bs_tree.specs.declared.tree.Program.{Program}
 use Rattle.bs_top.proofs.Machines.{items}
 use Rattle.bs_top.proofs.Simulating.{itself}
 use Rattle.bs_top.proofs.Stages.{stops, goes_on}
 
-module _ (files : Files) (name : List ℕ) (word : MachineWord) where
-  abbrev pub reply : Option Asked
-  reply = Some (model name word)
+abbrev pub program_of : Accepted → Program
+program_of a = a.program
 
-  pub no_text : (stop : Stop) → Told items (contents files name) (Err stop) → Told said_of (reply_to files reply) (Err stop)
-  unfolding reply_to
-  no_text stop h = stops items said_of (contents files name) (λ text. and_then (program_in text) (λ p. and_then (machine_named files word) (λ m. simulated p m))) stop h
+abbrev pub nothing : Accepted → Unit {0}
+nothing a = tt
+
+-- the name of the program's file
+abbrev pub AsksFor : List ℕ → Asked → Type 0
+AsksFor name (check n) = name ≡ n
+AsksFor name (model n word) = name ≡ n
+
+module _ (files : Files) (name : List ℕ) where
+  pub no_text : (stop : Stop) → Told items (contents files name) (Err stop) → Told program_of (accepted files name) (Err stop)
+  unfolding accepted
+  no_text stop h = stops items program_of (contents files name) (λ text. and_then (program_in text) (λ p. and_then (checked p) (λ _. gives (Ok p)))) stop h
 
   module _ (text : List ℕ) (is_text : contents files name (Ok text)) where
-    pub no_program : (stop : Stop) → Told itself (program_in text) (Err stop) → Told said_of (reply_to files reply) (Err stop)
-    unfolding reply_to
-    no_program stop h = goes_on said_of (contents files name) (λ text. and_then (program_in text) (λ p. and_then (machine_named files word) (λ m. simulated p m))) text (Err stop) is_text
-        (stops itself said_of (program_in text) (λ p. and_then (machine_named files word) (λ m. simulated p m)) stop h)
+    pub no_program : (stop : Stop) → Told itself (program_in text) (Err stop) → Told program_of (accepted files name) (Err stop)
+    unfolding accepted
+    no_program stop h = goes_on program_of (contents files name) (λ text. and_then (program_in text) (λ p. and_then (checked p) (λ _. gives (Ok p)))) text (Err stop) is_text
+        (stops itself program_of (program_in text) (λ p. and_then (checked p) (λ _. gives (Ok p))) stop h)
 
     module _ (p : Program) (is_program : program_in text (Ok p)) where
-      on_program : (r : Result Reply Stop) → Told said_of (and_then (machine_named files word) (λ m. simulated p m)) r → Told said_of (reply_to files reply) r
-      unfolding reply_to
-      on_program r h = goes_on said_of (contents files name) (λ text. and_then (program_in text) (λ p. and_then (machine_named files word) (λ m. simulated p m))) text r is_text
-          (goes_on said_of (program_in text) (λ p. and_then (machine_named files word) (λ m. simulated p m)) p r is_program h)
+      ends : (r : Result Accepted Stop) → IfOk r (λ a. a.program ≡ p) → Told nothing (checked p) r → Told program_of (and_then (checked p) (λ _. gives (Ok p))) r
+      ends (Ok a) same h = (tt, h, ap (λ q. Ok q) (sym same))
+      ends (Err (Refused why)) same h = inl h
+      ends (Err NoFile) same h = inl h
+      ends (Err ReadFault) same h = tt
+      ends (Err Memory) same h = tt
 
-      pub no_machine : (stop : Stop) → Told machine_view (machine_named files word) (Err stop) → Told said_of (reply_to files reply) (Err stop)
+      pub accepts : (r : Result Accepted Stop) → IfOk r (λ a. a.program ≡ p) → Told nothing (checked p) r → Told program_of (accepted files name) r
+      unfolding accepted
+      accepts r same h = goes_on program_of (contents files name) (λ text. and_then (program_in text) (λ p. and_then (checked p) (λ _. gives (Ok p)))) text r is_text
+          (goes_on program_of (program_in text) (λ p. and_then (checked p) (λ _. gives (Ok p))) p r is_program (ends r same h))
+
+  pub not_accepted : (q : Asked) (stop : Stop) → AsksFor name q → Told program_of (accepted files name) (Err stop) → Told said_of (reply_to files (Some q)) (Err stop)
+  unfolding reply_to
+  not_accepted (check n) stop is h = subst (λ k. Told said_of (reply_to files (Some (check k))) (Err stop)) is
+      (stops program_of said_of (accepted files name) (λ p. gives (Ok (record { end = end.Settled; text = text_of p }))) stop h)
+  not_accepted (model n word) stop is h = subst (λ k. Told said_of (reply_to files (Some (model k word))) (Err stop)) is
+      (stops program_of said_of (accepted files name) (λ p. and_then (machine_named files word) (λ m. simulated p m)) stop h)
+
+  module _ (p : Program) (is_program : accepted files name (Ok p)) where
+    pub prints : (said : Said) → said ≡ record { end = end.Settled; text = text_of p } → reply_to files (Some (check name)) (Ok said)
+    unfolding reply_to
+    prints said is = (p, is_program, ap (λ s. Ok s) (sym is))
+
+    module _ (word : MachineWord) where
+      on_program : (r : Result Reply Stop) → Told said_of (and_then (machine_named files word) (λ m. simulated p m)) r → Told said_of (reply_to files (Some (model name word))) r
+      unfolding reply_to
+      on_program r h = goes_on said_of (accepted files name) (λ p. and_then (machine_named files word) (λ m. simulated p m)) p r is_program h
+
+      pub no_machine : (stop : Stop) → Told machine_view (machine_named files word) (Err stop) → Told said_of (reply_to files (Some (model name word))) (Err stop)
       no_machine stop h = on_program (Err stop) (stops machine_view said_of (machine_named files word) (λ m. simulated p m) stop h)
 
-      pub on_machine : (m : MachineOf) (r : Result Reply Stop) → machine_named files word (Ok m) → Told said_of (simulated p m) r → Told said_of (reply_to files reply) r
+      pub on_machine : (m : MachineOf) (r : Result Reply Stop) → machine_named files word (Ok m) → Told said_of (simulated p m) r → Told said_of (reply_to files (Some (model name word))) r
       on_machine m r h k = on_program r (goes_on said_of (machine_named files word) (λ m. simulated p m) m r h k)
 
 pub no_words : (files : Files) → Told said_of (reply_to files None) (Err (Refused fault.BadWords))

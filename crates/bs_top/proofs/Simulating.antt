@@ -1,7 +1,11 @@
 -- What comes of a program on a machine, from its steps.
-use Rattle.std.proofs.Common.{◌≡◌, ◌≢◌, ℕ, List, refl, sym, ap, subst, inl, Result, Ok, Err}
+use Rattle.std.proofs.Common.{◌≡◌, ◌≢◌, ℕ, List, refl, sym, ap, subst, inl, Result, Ok, Err, None}
 use Rattle.bs_machine.specs.Machine.{MachineOf}
 use Rattle.bs_machine.specs.declared.fitted.Fitted.{Fitted}
+use Rattle.bs_check.specs.Refusal.{IsRefused, refusal}
+use Rattle.bs_check.specs.declared.accepted.Accepted.{Accepted}
+use Rattle.bs_check.specs.declared.fault.CheckFault.{CheckFault}
+use Rattle.bs_check.specs.declared.fault.CheckFault.TheVariants as check
 use Rattle.bs_parse.specs.Text.{IsFault}
 use Rattle.bs_parse.specs.declared.text.ParseFault.{ParseFault}
 use Rattle.bs_parse.specs.declared.text.ParseFault.TheVariants as parse
@@ -13,11 +17,11 @@ use Rattle.bs_tree.specs.declared.tree.Program.{Program}
 use Rattle.bs_top.specs.declared.stop.Reply.{Reply}
 use Rattle.bs_top.specs.declared.stop.Stop.{Stop}
 use Rattle.bs_top.specs.declared.stop.Stop.TheVariants.{Refused, NoFile, ReadFault, Memory}
-use Rattle.bs_top.specs.Answer.{IsReport, fits, is_built, program_in, run, simulated}
+use Rattle.bs_top.specs.Answer.{IsReport, checked, fits, is_built, program_in, run, simulated}
 use Rattle.bs_top.specs.Computing.{Computes, IsComputed, IsSmallOf}
 use Rattle.bs_top.specs.Seen.{said_of}
 use Rattle.bs_top.specs.Step.{Said, Told, and_then}
-use Rattle.bs_top.specs.Stops.{stop_for_program}
+use Rattle.bs_top.specs.Stops.{stop_for_check, stop_for_program}
 use Rattle.bs_top.proofs.Stages.{stops, goes_on}
 
 abbrev pub itself : Program → Program
@@ -37,25 +41,36 @@ small_computes p NoFile h = h
 small_computes p ReadFault h = h
 small_computes p Memory h = tt
 
+pub is_refused : (p : Program) (why : CheckFault) → (why ≢ check.Memory → IsRefused p why) → Told (λ (a : Accepted). tt) (checked p) (Err (stop_for_check why))
+unfolding checked
+is_refused p (check.Refused stmt rule) h = (check.Refused stmt rule, h (λ e. absurd (cc)), refl)
+is_refused p check.Memory h = tt
+
+pub is_accepted : (p : Program) → refusal p ≡ None → checked p (Ok tt)
+unfolding checked
+is_accepted p h = h
+
 module _ (p : Program) (m : MachineOf) where
-  pub not_small : (stop : Stop) → IsSmallOf p (Err stop) → Told said_of (simulated p m) (Err stop)
-  unfolding simulated is_built
-  not_small (Refused why) h = inl (ap (λ f. Refused f) h.0, h.1)
-  not_small NoFile h = absurd h
-  not_small ReadFault h = tt
-  not_small Memory h = tt
+  pub unfit : (stop : Stop) → Told (λ (f : Fitted). tt) (fits p.chares m) (Err stop) → Told said_of (simulated p m) (Err stop)
+  unfolding simulated
+  unfit stop h = stops (λ (f : Fitted). tt) said_of (fits p.chares m) (λ _. and_then (is_built p) (λ _. run p m)) stop h
 
-  module _ (s : Small) (is : IsSmallProgram p s) where
-    built : is_built p (Ok tt)
+  module _ (fit : fits p.chares m (Ok tt)) where
+    small_stops : (stop : Stop) → IsSmallOf p (Err stop) → Told said_of (and_then (is_built p) (λ _. run p m)) (Err stop)
     unfolding is_built
-    built = (s, is)
+    small_stops (Refused why) h = inl (ap (λ f. Refused f) h.0, h.1)
+    small_stops NoFile h = absurd h
+    small_stops ReadFault h = tt
+    small_stops Memory h = tt
 
-    pub unfit : (stop : Stop) → Told (λ (f : Fitted). tt) (fits 2 m) (Err stop) → Told said_of (simulated p m) (Err stop)
+    pub not_small : (stop : Stop) → IsSmallOf p (Err stop) → Told said_of (simulated p m) (Err stop)
     unfolding simulated
-    unfit stop h = goes_on said_of (is_built p) (λ _. and_then (fits p.chares m) (λ _. run p m)) tt (Err stop) built
-        (stops (λ (f : Fitted). tt) said_of (fits p.chares m) (λ _. run p m) stop
-        (subst (λ n. Told (λ (f : Fitted). tt) (fits n m) (Err stop)) (sym (ap (λ (q : Program). q.chares) is.is)) h))
+    not_small stop h = goes_on said_of (fits p.chares m) (λ _. and_then (is_built p) (λ _. run p m)) tt (Err stop) fit (small_stops stop h)
 
-    pub ran : (said : Said) → fits 2 m (Ok tt) → IsReport p m said → simulated p m (Ok said)
+    built : (s : Small) → IsSmallProgram p s → is_built p (Ok tt)
+    unfolding is_built
+    built s is = (s, is)
+
+    pub ran : (s : Small) → IsSmallProgram p s → (said : Said) → IsReport p m said → simulated p m (Ok said)
     unfolding simulated
-    ran said fit report = (tt, built, (tt, subst (λ n. fits n m (Ok tt)) (sym (ap (λ (q : Program). q.chares) is.is)) fit, report))
+    ran s is said report = (tt, fit, (tt, built s is, report))

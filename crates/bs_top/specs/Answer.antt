@@ -4,6 +4,8 @@ use Rattle.std.specs.FinMap as map
 use Rattle.bs_desk.specs.declared.desk.Port.{Port}
 use Rattle.bs_desk.specs.declared.desk.Port.TheVariants as port
 use Rattle.bs_desk.specs.Outside.{Files}
+use Rattle.bs_check.specs.Refusal.{IsRefused, refusal}
+use Rattle.bs_check.specs.declared.fault.CheckFault.{CheckFault}
 use Rattle.bs_log.specs.declared.outcome.End.{End}
 use Rattle.bs_log.specs.declared.outcome.End.TheVariants as end
 use Rattle.bs_log.specs.declared.outcome.Outcome.{Outcome}
@@ -14,6 +16,7 @@ use Rattle.bs_machine.specs.declared.fitted.Fitted.{Fitted}
 use Rattle.bs_net.specs.Home.{has_length, homes_in}
 use Rattle.bs_parse.specs.Text.{IsFault, Spells}
 use Rattle.bs_parse.specs.declared.text.ParseFault.{ParseFault}
+use Rattle.bs_print.specs.Canonical.{text_of}
 use Rattle.bs_report.specs.declared.faults.Fault.{Fault}
 use Rattle.bs_report.specs.declared.faults.Fault.TheVariants as fault
 use Rattle.bs_report.specs.End.{end_of}
@@ -29,7 +32,7 @@ use Rattle.bs_top.specs.declared.status.Status.TheVariants as status
 use Rattle.bs_top.specs.declared.stop.Stop.{Stop}
 use Rattle.bs_top.specs.declared.stop.Stop.TheVariants.{Refused, NoFile, ReadFault, Memory}
 use Rattle.bs_top.specs.Step.{Step, Said, gives, ◌>>=◌}
-use Rattle.bs_top.specs.Words.{Asked, model, MachineWord, flat, file, size_limit}
+use Rattle.bs_top.specs.Words.{Asked, check, model, MachineWord, flat, file, size_limit}
 
 -- a file has at most this many bytes
 abbrev pub file_limit : ℕ
@@ -59,6 +62,19 @@ unfoldable pub program_in : List ℕ → Step Program
 program_in text (Ok p) = Spells text p
 program_in text (Err stop) = (why : ParseFault) × IsFault text why × (stop ≡ Refused (fault.BadProgram why))
 
+-- the program keeps all rules of the language, or the first that it breaks
+unfoldable pub checked : Program → Step (Unit {0})
+checked p (Ok _) = refusal p ≡ None
+checked p (Err stop) = (why : CheckFault) × IsRefused p why × (stop ≡ Refused (fault.CheckFailed why))
+
+-- the program in the file of that name, where it keeps all rules
+unfoldable pub accepted : Files → List ℕ → Step Program
+accepted files name = do
+  text ← contents files name
+  program ← program_in text
+  _ ← checked program
+  gives (Ok program)
+
 -- so far programs of the small form are run, and no others
 unfoldable pub is_built : Program → Step (Unit {0})
 is_built p (Ok _) = (s : Small) × IsSmallProgram p s
@@ -84,16 +100,18 @@ run p m (Err stop) = ⊥
 -- what comes of a program on a machine
 unfoldable pub simulated : Program → MachineOf → Step Said
 simulated program machine = do
-  _ ← is_built program
   _ ← fits program.chares machine
+  _ ← is_built program
   run program machine
 
 -- what comes of a command; so it is that words which are none come to a refusal
 unfoldable pub reply_to : Files → Option Asked → Step Said
 reply_to files None = gives (Err (Refused fault.BadWords))
+reply_to files (Some (check name)) = do
+  program ← accepted files name
+  gives (Ok (record { end = end.Settled; text = text_of program }))
 reply_to files (Some (model name word)) = do
-  text ← contents files name
-  program ← program_in text
+  program ← accepted files name
   machine ← machine_named files word
   simulated program machine
 

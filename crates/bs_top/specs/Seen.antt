@@ -1,9 +1,10 @@
 -- What contracts see of a command that was read, and of a reply.
 use Rattle.bs_top.specs.declared.asked.Asked.{Asked as AskedFor}
+use Rattle.bs_top.specs.declared.asked.Asked.TheVariants as asked
 use Rattle.bs_top.specs.declared.asked.MachineWord.{MachineWord as Machine}
 use Rattle.bs_top.specs.declared.asked.MachineWord.TheVariants as word
 use Rattle.bs_top.specs.declared.stop.Reply.{Reply}
-use Rattle.bs_top.specs.Words.{Asked, model, MachineWord, flat, file}
+use Rattle.bs_top.specs.Words.{Asked, check, model, MachineWord, flat, file}
 use Rattle.bs_top.specs.Step.{Said}
 
 abbrev pub word_of : Machine → MachineWord
@@ -11,7 +12,8 @@ word_of (word.Flat processors latency) = flat processors latency
 word_of (word.File name) = file name.now
 
 abbrev pub asked_of : AskedFor → Asked
-asked_of asked = model asked.program.now (word_of asked.machine)
+asked_of (asked.Check program) = check program.now
+asked_of (asked.Model program machine) = model program.now (word_of machine)
 
 abbrev pub said_of : Reply → Said
 said_of reply = record { end = reply.end; text = reply.text.items }

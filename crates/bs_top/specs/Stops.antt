@@ -1,10 +1,12 @@
 -- The reason to stop that is made of a refusal.
+use Rattle.bs_check.specs.declared.fault.CheckFault.{CheckFault}
+use Rattle.bs_check.specs.declared.fault.CheckFault.TheVariants as check
 use Rattle.bs_machine.specs.declared.fault.MachineFault.{MachineFault}
 use Rattle.bs_machine.specs.declared.fault.MachineFault.TheVariants as machine
 use Rattle.bs_machine.specs.declared.fitted.PlaceLength.{PlaceLength}
 use Rattle.bs_parse.specs.declared.text.ParseFault.{ParseFault}
 use Rattle.bs_parse.specs.declared.text.ParseFault.TheVariants as parse
-use Rattle.bs_report.specs.declared.faults.Fault.TheVariants.{BadWords, BadProgram, BadMachine, BadPlace}
+use Rattle.bs_report.specs.declared.faults.Fault.TheVariants.{BadWords, BadProgram, CheckFailed, BadMachine, BadPlace}
 use Rattle.bs_words.specs.declared.fault.WordsFault.{WordsFault}
 use Rattle.bs_words.specs.declared.fault.WordsFault.TheVariants as words
 use Rattle.bs_top.specs.declared.stop.Stop.{Stop}
@@ -17,6 +19,10 @@ stop_for_words words.Memory = Memory
 abbrev pub stop_for_program : ParseFault → Stop
 stop_for_program parse.Memory = Memory
 stop_for_program fault = Refused (BadProgram fault)
+
+abbrev pub stop_for_check : CheckFault → Stop
+stop_for_check check.Memory = Memory
+stop_for_check fault = Refused (CheckFailed fault)
 
 abbrev pub stop_for_machine : MachineFault → Stop
 stop_for_machine machine.Memory = Memory

@@ -5,7 +5,7 @@ use Rattle.bs_words.specs.Parts.{command_in}
 use Rattle.bs_words.specs.Roles.{before_colon, number_from}
 use Rattle.bs_words.specs.declared.command.Command.{Command}
 use Rattle.bs_words.specs.declared.verb.Verb.{Verb}
-use Rattle.bs_words.specs.declared.verb.Verb.TheVariants.{Model}
+use Rattle.bs_words.specs.declared.verb.Verb.TheVariants.{Check, Model}
 
 -- the size of a run is at most this
 abbrev pub size_limit : ℕ
@@ -18,6 +18,7 @@ pub data MachineWord : Type 0 where
 
 -- a command that is built, with the name of the program's file
 pub data Asked : Type 0 where
+  check : List ℕ → Asked
   model : List ℕ → MachineWord → Asked
 
 abbrev pub flat_with : Option ℕ → Option ℕ → Option MachineWord
@@ -37,10 +38,11 @@ abbrev pub machine_word : List ℕ → Option MachineWord
 machine_word word = if bytes_eq (take 5 word) (codes "flat:") then flat_numbers (drop 5 word) else Some (file word)
 
 abbrev pub asked_with : Verb → List (List ℕ) → Option Asked
+asked_with Check (program ∷ []) = Some (check program)
 asked_with Model (program ∷ machine ∷ []) = option_map (λ m. model program m) (machine_word machine)
 asked_with _ _ = None
 
--- what is asked for, where the command is built: `model`, with no other limit than the greatest
+-- what is asked for, where the command is built: `check`, or `model` with no other limit than the greatest
 abbrev pub built : Command → Option Asked
 built command = if command.limit == size_limit then asked_with command.verb command.names else None
 

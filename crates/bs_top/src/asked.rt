@@ -7,11 +7,11 @@ ghost use Rattle.bs_top.specs.Words.{asked_with, built as built_of, flat_numbers
 use bs_num::read_decimal;
 use bs_words::{Argument, Command, Verb};
 
-/// What `model` is asked for: the name of the program's file, and the machine.
+/// A command that is built, with the name of the program's file.
 #[derive(Clone, Copy, Drop)]
-pub(crate) struct Asked<'a> {
-    pub(crate) program: &'a str,
-    pub(crate) machine: MachineWord<'a>,
+pub(crate) enum Asked<'a> {
+    Check(&'a str),
+    Model(&'a str, MachineWord<'a>),
 }
 
 /// A machine: its processors and its latency, or the name of its file.
@@ -36,10 +36,10 @@ fn with_names(verb: Verb, names: &[Argument]) -> Option<Asked<'_>>
     ensures { option_map asked_of result ≡ asked_with verb names.now }
 {
     match (verb, names) {
+        (Verb::Check, [program]) => Some(Asked::Check(program.text())),
         (Verb::Model, [program, machine]) => {
             let machine = machine_word(machine.text())?;
-            let program = program.text();
-            Some(Asked { program, machine })
+            Some(Asked::Model(program.text(), machine))
         }
         _ => None,
     }

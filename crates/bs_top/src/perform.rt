@@ -9,9 +9,9 @@ ghost use Rattle.bs_top.specs.Seen.{said_of};
 ghost use Rattle.bs_top.specs.Step.{Told};
 ghost use Rattle.bs_top.specs.Words.{asked_by};
 
-use crate::asked::built;
+use crate::asked::{Asked, built};
 use crate::status::Status;
-use crate::steps::model;
+use crate::steps::{check_text, model};
 use crate::stop::{Reply, Stop};
 use bs_desk::{Desk, DeskFault, Port, write_all};
 use bs_log::End;
@@ -45,7 +45,8 @@ fn reply<D: Desk>(alloc: Global, words: &[String], desk: &mut D) -> Result<Reply
 {
     let command = read_words(alloc, words)?;
     match built(&command) {
-        Some(asked) => model(alloc, desk, asked.program, asked.machine),
+        Some(Asked::Check(name)) => check_text(alloc, desk, name),
+        Some(Asked::Model(name, word)) => model(alloc, desk, name, word),
         None => Err(Stop::Refused(Fault::BadWords)),
     }
 }

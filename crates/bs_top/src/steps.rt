@@ -3,19 +3,26 @@ ghost use Rattle.std.specs.Prelude.{◌≡◌, ◌≤◌, ℕ, List as PlainList
 ghost use Rattle.bs_desk.specs.Outside.{IsReading};
 ghost use Rattle.bs_machine.specs.File.{machine_in};
 ghost use Rattle.bs_machine.specs.Machine.{flat_in, machine_view};
+ghost use Rattle.bs_check.specs.Refusal.{IsWhole};
+ghost use Rattle.bs_parse.specs.Text.{HasText};
+ghost use Rattle.bs_print.specs.Canonical.{text_of};
 ghost use Rattle.bs_small.specs.Form.{IsSmall, program_of};
-ghost use Rattle.bs_top.specs.Answer.{IsReport, contents, fits, machine_named, or_bad_machine, program_in, reply_to, simulated};
+ghost use Rattle.bs_top.specs.Answer.{IsReport, accepted as accepted_of, checked, contents, fits, machine_named, or_bad_machine, program_in, reply_to, simulated};
 ghost use Rattle.bs_top.specs.Causes.{HasRead, StepCause};
 ghost use Rattle.bs_top.specs.Computing.{Computes, IsSmallOf};
 ghost use Rattle.bs_top.specs.Seen.{said_of, word_of};
 ghost use Rattle.bs_top.specs.Step.{Told, gives};
-ghost use Rattle.bs_top.specs.Words.{model as model_asked};
+ghost use Rattle.bs_top.specs.Words.{check as check_asked, model as model_asked};
 
 use crate::asked::MachineWord;
 use crate::stop::{Reply, Stop};
+use bs_check::{Accepted, check};
 use bs_desk::{Desk, ReadAllFault, read_all};
+use bs_log::End;
 use bs_machine::{Fitted, Machine, flat, read_machine};
+use bs_parse::laws::spelled_programs;
 use bs_parse::parse;
+use bs_print::print;
 use bs_report::{Fault, end, report};
 use bs_small::{Small, run, small_of};
 use bs_tree::Program;
@@ -74,21 +81,49 @@ fn machine_of_file(alloc: Global, bytes: &[u8]) -> Result<Machine, Stop>
     Ok(read_machine(alloc, bytes)?)
 }
 
-/// The program that a text spells.
+/// Reads the program in the file of that name, which keeps all rules of the language.
+fn accepted<D: Desk>(alloc: Global, desk: &mut D, name: &str) -> Result<Accepted, Stop>
+    ensures reading { IsReading (D.world desk.old) (D.world desk.new) }
+    ensures later { (D.world desk.old).read_faults ≤ (D.world desk.new).read_faults }
+    ensures cause { StepCause (D.world desk.old) (D.world desk.new) result }
+    ensures spelled { IfOk result (λ accepted. HasText accepted.program) }
+    ensures chares { IfOk result (λ accepted. (1 ≤ accepted.program.chares) × (accepted.program.chares ≤ 65536)) }
+    ensures told { IfSome (D.world desk.old).files (λ files. Told (λ accepted. accepted.program) (accepted_of files name.now) result) }
+{
+    let text = file(alloc, desk, name)?;
+    let program = program_of_text(alloc, text.as_slice())?;
+    accept(alloc, program)
+}
+
+// The program that a text spells.
 fn program_of_text(alloc: Global, text: &[u8]) -> Result<Program, Stop>
     ensures kind { Computes result }
+    ensures spelled { IfOk result HasText }
+    ensures whole { IfOk result IsWhole }
     ensures told { Told (λ program. program) (program_in text.now) result }
 {
+    spelled_programs();
     Ok(parse(alloc, text)?)
 }
 
-/// Runs a program on a machine.
+fn accept(alloc: Global, program: Program) -> Result<Accepted, Stop>
+    requires { IsWhole program }
+    ensures kind { Computes result }
+    ensures program { IfOk result (λ accepted. accepted.program ≡ program) }
+    ensures chares { IfOk result (λ accepted. (1 ≤ accepted.program.chares) × (accepted.program.chares ≤ 65536)) }
+    ensures told { Told (λ _. tt) (checked program) result }
+{
+    Ok(check(alloc, program)?)
+}
+
+// Runs a program on a machine.
 fn simulate(alloc: Global, program: &Program, machine: Machine) -> Result<Reply, Stop>
+    requires { (1 ≤ program.now.chares) × (program.now.chares ≤ 65536) }
     ensures kind { Computes result }
     ensures told { Told said_of (simulated program.now (machine_view machine)) result }
 {
+    let fitted = fit(machine, program.chares as u32)?;
     let small = small_program(alloc, program)?;
-    let fitted = fit(machine, 2)?;
     Ok(report_of(alloc, &small, &fitted)?)
 }
 
@@ -125,6 +160,27 @@ fn report_of(alloc: Global, small: &Small, fitted: &Fitted) -> Result<Reply, All
     })
 }
 
+/// Reads a program, and gives its canonical text.
+pub(crate) fn check_text<D: Desk>(alloc: Global, desk: &mut D, name: &str) -> Result<Reply, Stop>
+    ensures reading { IsReading (D.world desk.old) (D.world desk.new) }
+    ensures cause { StepCause (D.world desk.old) (D.world desk.new) result }
+    ensures told { IfSome (D.world desk.old).files (λ files. Told said_of (reply_to files (Some (check_asked name.now))) result) }
+{
+    let accepted = accepted(alloc, desk, name)?;
+    Ok(printed(alloc, accepted.program())?)
+}
+
+fn printed(alloc: Global, program: &Program) -> Result<Reply, AllocError>
+    requires { HasText program.now }
+    ensures { IfOk result (λ reply. said_of reply ≡ record { end = End.Settled; text = text_of program.now }) }
+{
+    let text = print(alloc, program)?;
+    Ok(Reply {
+        end: End::Settled,
+        text,
+    })
+}
+
 /// Reads a program and a machine, and runs the one on the other.
 pub(crate) fn model<D: Desk>(
     alloc: Global,
@@ -133,12 +189,10 @@ pub(crate) fn model<D: Desk>(
     word: MachineWord<'_>,
 ) -> Result<Reply, Stop>
     ensures reading { IsReading (D.world desk.old) (D.world desk.new) }
-    ensures later { (D.world desk.old).read_faults ≤ (D.world desk.new).read_faults }
     ensures cause { StepCause (D.world desk.old) (D.world desk.new) result }
     ensures told { IfSome (D.world desk.old).files (λ files. Told said_of (reply_to files (Some (model_asked name.now (word_of word.entry)))) result) }
 {
-    let text = file(alloc, desk, name)?;
-    let program = program_of_text(alloc, text.as_slice())?;
+    let accepted = accepted(alloc, desk, name)?;
     let machine = machine(alloc, desk, word)?;
-    simulate(alloc, &program, machine)
+    simulate(alloc, accepted.program(), machine)
 }

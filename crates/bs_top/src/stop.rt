@@ -1,8 +1,9 @@
 // What comes of a command before anything is written.
 ghost use Rattle.std.specs.Prelude.{◌≡◌};
-ghost use Rattle.bs_top.specs.Stops.{stop_for_machine, stop_for_place, stop_for_program, stop_for_words};
+ghost use Rattle.bs_top.specs.Stops.{stop_for_check, stop_for_machine, stop_for_place, stop_for_program, stop_for_words};
 ghost use Rattle.bs_top.specs.declared.stop.Stop.TheVariants.{Memory};
 
+use bs_check::CheckFault;
 use bs_log::End;
 use bs_machine::{MachineFault, PlaceLength};
 use bs_parse::ParseFault;
@@ -55,6 +56,17 @@ impl From<ParseFault> for Stop {
         match fault {
             ParseFault::Memory => Stop::Memory,
             _ => Stop::Refused(Fault::BadProgram(fault)),
+        }
+    }
+}
+
+impl From<CheckFault> for Stop {
+    ghost from_gives = { λ fault given. given ≡ stop_for_check fault };
+
+    fn from(fault: CheckFault) -> Stop {
+        match fault {
+            CheckFault::Memory => Stop::Memory,
+            _ => Stop::Refused(Fault::CheckFailed(fault)),
         }
     }
 }

@@ -154,6 +154,81 @@ fn reports(rt: HostRuntime) -> Result<(), Fail> {
     Ok(())
 }
 
+// Three chares on two processors, which is no program of the small form.
+const THREE_CHARES: &str = "chares 3; var x; entry go(1);
+body { if (this == 1) { serial { send go[0](1) to 0 bytes 640; work 1; send go[0](2) to 2; } }
+  else { when go[0](x) { serial { work 9; emit x; } } } }
+";
+
+const TWO_HOMES: &str = "[torus]
+sizes = [2]
+per_node = 1
+[place]
+kind = \"list\"
+list = [0, 1]
+[speed]
+num = 1
+den = 1
+[latency]
+self = 1
+local = 1
+base = 5
+hop = 0
+bytes_num = 1
+bytes_den = 64
+";
+
+// A machine that doesn't fit comes before a program that can't be run yet.
+#[test]
+fn place_length(rt: HostRuntime) -> Result<(), Fail> {
+    let words = ["model", "p", "m"];
+    let program = THREE_CHARES.as_bytes();
+    let line = "bad machine: place length 2 needs 3\n";
+    let machine = TWO_HOMES.as_bytes();
+    expect(&rt, &words, program, machine, Status::BadMachine, "", line)?;
+    let line = "bad program: not built\n";
+    let machine = SLOW_BYTES.as_bytes();
+    expect(&rt, &words, program, machine, Status::BadProgram, "", line)
+}
+
+#[test]
+fn checks(rt: HostRuntime) -> Result<(), Fail> {
+    let words = ["check", "p"];
+    let program = b"chares 1; body { serial { } }";
+    let text = "chares 1 ; body { serial { } }\n";
+    expect(&rt, &words, program, b"", Status::Settled, text, "")?;
+    let cases = [
+        (
+            "chares 1; body { serial { x = 8; } }",
+            "check failed: stmt 1 unknown name\n",
+        ),
+        (
+            "chares 1; var x; body { overlap { serial { x = 1; } serial { x = 2; } } }",
+            "check failed: stmt 1 interference var 0 parts 0 1\n",
+        ),
+        (
+            "chares 1; body { while (1) { } }",
+            "check failed: stmt 1 idle loop\n",
+        ),
+        (
+            "chares 1; var x; var x; body { }",
+            "check failed: stmt 0 declared twice\n",
+        ),
+        (
+            "chares 1; entry go(1); body { serial { send go[0]() to 0; } }",
+            "check failed: stmt 1 arity\n",
+        ),
+        ("chares 0; body { }", "check failed: stmt 0 limits\n"),
+    ];
+    for (program, line) in &cases {
+        let program = program.as_bytes();
+        expect(&rt, &words, program, b"", Status::CheckFailed, "", line)?;
+        let model = ["model", "p", "n"];
+        expect(&rt, &model, program, b"", Status::CheckFailed, "", line)?;
+    }
+    Ok(())
+}
+
 #[test]
 fn bad_machines(rt: HostRuntime) -> Result<(), Fail> {
     let program = TWO_CHARES.as_bytes();
@@ -295,7 +370,7 @@ fn bad_words(rt: HostRuntime) -> Result<(), Fail> {
         &["model", "p"],
         &["model", "-p", "flat:2:5"],
         &["run", "p", "flat:2:5"],
-        &["check", "p"],
+        &["check"],
         &["model", "p", "flat:0:5"],
         &["model", "p", "flat:2:0"],
         &["model", "p", "flat:65537:5"],

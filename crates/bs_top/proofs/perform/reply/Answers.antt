@@ -1,10 +1,10 @@
-use Rattle.std.proofs.Common.{map, string_bytes, sym, subst, refl, Err}
+use Rattle.std.proofs.Common.{map, string_bytes, sym, subst, refl, ap, ◌∙◌, Some, Err}
 use Rattle.bs_report.specs.declared.faults.Fault.TheVariants as fault
 use Rattle.bs_top.specs.declared.stop.Stop.TheVariants.{Refused}
 use Rattle.std.specs.Prelude.{IfSome}
 use Rattle.bs_words.specs.Parts.{command_in}
 use Rattle.bs_top.specs.Answer.{reply_to}
-use Rattle.bs_top.specs.Seen.{said_of}
+use Rattle.bs_top.specs.Seen.{asked_of, said_of}
 use Rattle.bs_top.specs.Step.{Told}
 use Rattle.bs_top.specs.Stops.{stop_for_words}
 use Rattle.bs_top.specs.Words.{asked_by}
@@ -19,11 +19,19 @@ returns-in_err-command-clause-told g c =
     at_stop (Told said_of (reply_to files (asked_by words))) (stop_for_words c.in_err-command.field-0.0) c.from_residual.result c.from_residual.ensures.1
     (bad_words files (command_in words) c.in_err-command.field-0.0 c.in_err-command.ensures.err))
 
-pub returns-in-Some-clause-told : goal.returns-in-Some-clause-told
-returns-in-Some-clause-told g c =
+pub returns-in-Some-Check-clause-told : goal.returns-in-Some-Check-clause-told
+returns-in-Some-Check-clause-told g c =
     let words = map string_bytes c.args.words.now in
+    let is = asked_is (command_in words) c.in_ok-command.command c.built.result c.in-Some-Check.field-0 c.in_ok-command.ensures.ok c.built.ensures c.in-Some-Check.is in
+    subst (λ q. IfSome (g.D.Desk.world c.args.desk.now).files (λ files. Told said_of (reply_to files q) c.check_text.result))
+    (sym (is ∙ ap (λ a. Some (asked_of a)) c.in-Some-Check.field-0-is)) c.check_text.ensures.told
+
+pub returns-in-Some-Model-clause-told : goal.returns-in-Some-Model-clause-told
+returns-in-Some-Model-clause-told g c =
+    let words = map string_bytes c.args.words.now in
+    let is = asked_is (command_in words) c.in_ok-command.command c.built.result c.in-Some-Model.field-0 c.in_ok-command.ensures.ok c.built.ensures c.in-Some-Model.is in
     subst (λ q. IfSome (g.D.Desk.world c.args.desk.now).files (λ files. Told said_of (reply_to files q) c.model.result))
-    (sym (asked_is (command_in words) c.in_ok-command.command c.built.result c.in-Some.asked c.in_ok-command.ensures.ok c.built.ensures c.in-Some.is)) c.model.ensures.told
+    (sym (is ∙ ap (λ a. Some (asked_of a)) c.in-Some-Model.field-0-is)) c.model.ensures.told
 
 pub returns-clause-told : goal.returns-clause-told
 returns-clause-told g c =

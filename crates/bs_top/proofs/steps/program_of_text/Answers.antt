@@ -2,6 +2,7 @@ use Rattle.bs_top.specs.Answer.{program_in}
 use Rattle.bs_top.specs.Step.{Told}
 use Rattle.bs_top.specs.Stops.{stop_for_program}
 use Rattle.bs_top.proofs.Simulating.{bad_program, itself}
+use Rattle.bs_top.proofs.Wholes.{is_whole}
 use Rattle.bs_top.proofs.Stages.{at_stop}
 use Rattle.bs_top.proofs.steps.program_of_text.Goals as goal
 
@@ -13,3 +14,9 @@ returns-in_err-parse-clause-told c =
 pub returns-clause-told : goal.returns-clause-told
 unfolding program_in
 returns-clause-told c = c.in_ok-parse.ensures.ok
+
+pub returns-clause-whole : goal.returns-clause-whole
+returns-clause-whole c =
+    let p = c.in_ok-parse.field-0 in
+    let spells = c.in_ok-parse.ensures.ok in
+    is_whole p (c.spelled_programs.ensures.statements c.args.text.now p spells) (λ n in'. c.spelled_programs.ensures.known c.args.text.now p n spells in')
