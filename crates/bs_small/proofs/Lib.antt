@@ -1,4 +1,5 @@
 mod SmallActs
+mod SmallRan
 mod SmallRuns
 mod SmallMail
 mod SmallStages

@@ -5,7 +5,6 @@ use Rattle.std.proofs.lemmas.Bool.Decides.{nat_tests, Decides-int_eq}
 use Rattle.std.proofs.lemmas.List.{length-map}
 use Rattle.std.proofs.lemmas.Slice.Eq.{bytes_eq-Decides}
 use Rattle.std.specs.Option.{option_map}
-use Rattle.std.specs.Ordering.{int_eq}
 use Rattle.std.specs.Str.{bytes_eq}
 use Rattle.bs_tree.specs.declared.tree.Name.{Name}
 use Rattle.bs_tree.specs.declared.tree.NameId.{NameId}
@@ -13,7 +12,7 @@ use Rattle.bs_tree.specs.declared.tree.VarDecl.{VarDecl}
 use Rattle.bs_tree.specs.declared.tree.EntryDecl.{EntryDecl}
 use Rattle.bs_tree.specs.declared.tree.Program.{Program}
 use Rattle.bs_tree.specs.declared.tree.Wait.{Wait}
-use Rattle.bs_tree.specs.declared.tree.Op2.TheVariants.{Or, And, Eq, Ne, Lt, Le, Gt, Ge, Add, Sub, Mul, Div, Rem}
+use Rattle.bs_tree.specs.declared.tree.Op2.TheVariants.{Sub}
 use Rattle.bs_tree.specs.declared.tree.Expr.{Expr, out-Expr}
 use Rattle.bs_tree.specs.declared.tree.Expr.TheOpen.{Expr-F}
 use Rattle.bs_tree.specs.declared.tree.Expr.TheViews.{roll-Expr, out-roll-Expr, roll-out-Expr}
@@ -28,9 +27,9 @@ use Rattle.bs_small.specs.declared.form.Given.TheVariants as given
 use Rattle.bs_small.specs.declared.form.SmallAct.{SmallAct}
 use Rattle.bs_small.specs.declared.form.SmallAct.TheVariants.{Work, Emit, Send}
 use Rattle.bs_small.specs.declared.form.Small.{Small}
-use Rattle.bs_small.specs.Form.{AreSmallActs, Distinct, IsGiven, IsSmall, IsSmallAct, act_of, expr_of, number, other_chare, program_of, references, serial_of, variable, wait_of}
+use Rattle.bs_small.specs.Form.{AreSmallActs, Distinct, IsGiven, IsSmall, IsSmallAct, act_of, expr_of, number, other_chare, references, serial_of, variable, wait_of}
 use Rattle.bs_small.specs.Program.{IsSmallProgram}
-use Rattle.bs_small.specs.Shape.{Waiting, act_in, act_step, acts_in, amount_in, amount_step, are_names, body_in, few_in, given_in, given_step, has_head, inside_in, is_entry, is_one, is_other, is_scalar, is_this, is_variable, natural, number_in, number_step, one_step, other_step, sent_in, sent_with, serial_in, serial_step, small_with, this_step, up_to_most, wait_in, waiting_with, when_in, when_step, with_act}
+use Rattle.bs_small.specs.Shape.{Waiting, act_in, act_step, acts_in, amount_in, amount_step, are_names, body_in, given_in, given_step, has_head, inside_in, is_entry, is_one, is_other, is_scalar, is_this, is_variable, natural, number_in, number_step, one_step, other_step, sent_in, sent_with, serial_in, serial_step, small_with, this_step, wait_in, waiting_with, when_in, when_step, with_act}
 
 -- ---- tests
 

@@ -18,17 +18,7 @@ use Rattle.bs_small.specs.declared.form.SmallAct.{SmallAct}
 use Rattle.bs_small.specs.declared.form.SmallAct.TheVariants.{Work, Emit, Send}
 use Rattle.bs_small.specs.declared.form.Small.{Small}
 use Rattle.bs_small.specs.Form.{number, expr_of, other_chare, act_of, entry, variable, program_of, AreSmallActs, IsSmallAct}
-use Rattle.bs_small.specs.Blocks.{value, cost_after, values}
-
--- what a send puts on its way
-abbrev pub parcel : ℕ → ℤ → ℕ → ℤ → Parcel
-parcel c r cost a = record { sent = record { to = 1 - c; key = record { entry = 0; reference = r }; bytes = 8; offset = cost }; args = a ∷ [] }
-
-abbrev pub parcels : ℕ → ℤ → ℕ → List SmallAct → List Parcel
-parcels c v cost [] = []
-parcels c v cost (Work n ∷ as') = parcels c v (cost + n) as'
-parcels c v cost (Emit g ∷ as') = parcels c v cost as'
-parcels c v cost (Send r g ∷ as') = parcel c r cost (value c v g) ∷ parcels c v cost as'
+use Rattle.bs_small.specs.Blocks.{value, cost_after, values, parcel, parcels}
 
 -- a block so far, where the variable holds v
 abbrev pub at : ℤ → ℕ → ℕ → List Parcel → List ℤ → Tally

@@ -8,8 +8,7 @@ use Rattle.bs_semantics.specs.Rounds.{mail_to}
 use Rattle.bs_semantics.specs.Serial.{Machine, Started, timed, Gives, starts, ends, messages, find, IsClean, IsEnabled, IsNext, would_start, outcome}
 use Rattle.bs_small.specs.declared.form.Small.{Small}
 use Rattle.bs_small.specs.Form.{program_of, references, IsSmall}
-use Rattle.bs_small.specs.declared.model.Sending.{Sending}
-use Rattle.bs_small.specs.Blocks.{value, sending}
+use Rattle.bs_small.specs.Blocks.{Sending, value, sending}
 use Rattle.bs_small.proofs.SmallRuns.{key, first_block, second_block, waiting, served, history_served}
 use Rattle.bs_small.proofs.SmallMail.{tagged_signed, none_without, past_none, at_front, message, IsFound, found_signed, unsent, sent, not_in_both}
 use Rattle.bs_small.proofs.SmallStages.{IsTidy, tidy_served}

@@ -11,9 +11,7 @@ use Rattle.bs_semantics.specs.Rounds.{is_for, mail_to, Mem, Apart, one_key}
 use Rattle.bs_small.specs.declared.form.SmallAct.{SmallAct}
 use Rattle.bs_small.specs.declared.form.SmallAct.TheVariants.{Work, Emit, Send}
 use Rattle.bs_small.specs.Form.{references, IsIn, Distinct}
-use Rattle.bs_small.specs.declared.model.Sending.{Sending}
-use Rattle.bs_small.specs.Blocks.{value, sending}
-use Rattle.bs_small.proofs.SmallActs.{parcels}
+use Rattle.bs_small.specs.Blocks.{Sending, value, sending, parcels}
 
 abbrev pub key_of : ℤ → Key
 key_of r = record { entry = 0; reference = r }

@@ -19,8 +19,8 @@ use Rattle.bs_semantics.specs.Run.{Lookup, Meant, meant, meant_step, signed, his
 use Rattle.bs_small.specs.declared.form.Small.{Small}
 use Rattle.bs_small.specs.declared.form.SmallAct.{SmallAct}
 use Rattle.bs_small.specs.Form.{number, serial_of, wait_of, program_of, act_of, IsSmall}
-use Rattle.bs_small.specs.Blocks.{cost_after, values}
-use Rattle.bs_small.proofs.SmallActs.{parcels, block_is}
+use Rattle.bs_small.specs.Blocks.{cost_after, values, parcels}
+use Rattle.bs_small.proofs.SmallActs.{block_is}
 
 abbrev pub path : List ℕ → Path
 path ns = record { 0 = ns }

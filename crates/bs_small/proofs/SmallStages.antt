@@ -9,8 +9,7 @@ use Rattle.bs_small.specs.declared.form.SmallAct.{SmallAct}
 use Rattle.bs_small.specs.declared.form.SmallAct.TheVariants.{Work, Emit, Send}
 use Rattle.bs_small.specs.declared.form.Small.{Small}
 use Rattle.bs_small.specs.Form.{references, Distinct, IsIn, IsSmall}
-use Rattle.bs_small.specs.Blocks.{values}
-use Rattle.bs_small.proofs.SmallActs.{parcels}
+use Rattle.bs_small.specs.Blocks.{values, parcels}
 use Rattle.bs_small.proofs.SmallRuns.{waiting, served}
 use Rattle.bs_small.proofs.SmallMail.{Tagged, tagged_signed, tagged_both, apart_tagged, apart_both, apart_elsewhere}
 

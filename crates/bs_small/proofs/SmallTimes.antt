@@ -14,8 +14,7 @@ use Rattle.bs_semantics.specs.Rounds.{mail_to}
 use Rattle.bs_semantics.specs.Serial.{Machine, Started, timed, IsSerial, messages, find, would_start, ready, free, Earlier, outcome, rows_of, traps_from, waits_from}
 use Rattle.bs_small.specs.declared.form.Small.{Small}
 use Rattle.bs_small.specs.Form.{program_of, IsSmall}
-use Rattle.bs_small.specs.declared.model.Sending.{Sending}
-use Rattle.bs_small.specs.Blocks.{value, sending}
+use Rattle.bs_small.specs.Blocks.{Sending, value, sending}
 use Rattle.bs_small.specs.Times.{first_time, second_time, outcome_if, outcome_of, first_row, second_row, wait_row}
 use Rattle.bs_small.proofs.SmallRuns.{key, first_block, waiting, served}
 use Rattle.bs_small.proofs.SmallSteps.{IsSooner}

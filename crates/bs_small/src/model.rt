@@ -1,23 +1,29 @@
 // Runs a program of the small form on a machine.
-ghost use Rattle.std.specs.Prelude.{◌≡◌, ◌∷◌, [], ◌<◌, ◌≤◌, ◌+◌, ◌*◌, ◌^◌, ℕ, List as PlainList, IfOk, IfSome, None, Some, length};
+ghost use Rattle.std.specs.Prelude.{◌≡◌, ◌∷◌, [], ◌<◌, ◌≤◌, ◌*◌, ◌^◌, IfOk};
 ghost use Rattle.bs_report.specs.Report.{IsReportable, IsTimed};
 ghost use Rattle.bs_semantics.specs.Serial.{IsSerial, timed};
-ghost use Rattle.bs_small.specs.Form.{AreSmallActs, IsSmall, program_of};
 ghost use Rattle.bs_small.specs.Machine.{machine_of};
-ghost use Rattle.bs_small.specs.Blocks.{cost_after, sending as sending_of, value, values};
-ghost use Rattle.bs_small.specs.Times.{first_row as first_row_of, first_starts as first_starts_of, outcome_if, outcome_of, second_row as second_row_of, second_starts as second_starts_of, wait_row as wait_row_of};
+ghost use Rattle.bs_small.specs.Program.{IsSmallProgram};
+ghost use Rattle.bs_small.specs.Ran.{AreCosted, IsCosted};
+ghost use Rattle.bs_small.specs.Times.{first_starts as first_starts_of, outcome_of, ready as ready_of, row as row_of, second_starts as second_starts_of, settled_of, wait_row as wait_row_of, waiting_of};
 
-use crate::form::{Given, Small, SmallAct};
+use crate::blocks::{find_letter, first_block, second_block};
+use crate::form::Small;
+use bs_block::BlockDone;
+use bs_check::Accepted;
 use bs_log::{Key, OutRow, Outcome, WaitRow};
 use bs_machine::Fitted;
 use bs_tree::List;
 use std::alloc::{AllocError, Global};
 
-/// What is sent with a reference number, and the cost of the block before it.
-#[derive(Clone, Copy, Debug, PartialEq, Eq, Drop)]
-pub struct Sending {
-    pub offset: u64,
-    pub argument: Given,
+/// What ran where each chare got the other one's message: both blocks of chare 0, and both of
+/// chare 1. The first blocks of both chares cost the same, and so do the second ones.
+#[derive(Debug, Drop)]
+pub struct Served {
+    pub first_zero: BlockDone,
+    pub second_zero: BlockDone,
+    pub first_one: BlockDone,
+    pub second_one: BlockDone,
 }
 
 /// When a block of each of the two chares starts, in ticks.
@@ -27,40 +33,71 @@ pub struct Starts {
     pub one: u128,
 }
 
-/// The outcome of a program of the small form on a machine: what the serial machine model gives,
-/// whatever the two names of the program are. Only memory can be wanting.
-pub fn run(alloc: Global, small: &Small, machine: &Fitted) -> Result<Outcome, AllocError>
-    requires small { IsSmall small.now }
+/// The outcome of an accepted program of the small form on a machine: what the serial machine model
+/// gives. Only memory can be wanting.
+pub fn run(
+    alloc: Global,
+    accepted: &Accepted,
+    small: &Small,
+    machine: &Fitted,
+) -> Result<Outcome, AllocError>
+    requires small { IsSmallProgram accepted.now.program small.now }
     requires chares { machine.now.chares ≡ 2 }
     ensures reportable { IfOk result IsReportable }
-    ensures serial { IfOk result (λ o. (x e : PlainList ℕ) → IsSerial (program_of x e small.now) 262144 (machine_of machine.now) (timed o)) }
+    ensures serial { IfOk result (λ o. IsSerial accepted.now.program 262144 (machine_of machine.now) (timed o)) }
 {
-    outcome(alloc, small, machine)
+    outcome(alloc, accepted, small, machine)
 }
 
-fn outcome(alloc: Global, small: &Small, machine: &Fitted) -> Result<Outcome, AllocError>
-    requires small { IsSmall small.now }
+fn outcome(
+    alloc: Global,
+    accepted: &Accepted,
+    small: &Small,
+    machine: &Fitted,
+) -> Result<Outcome, AllocError>
+    requires small { IsSmallProgram accepted.now.program small.now }
     requires chares { machine.now.chares ≡ 2 }
     ensures value { IfOk result (λ o. o ≡ outcome_of (machine_of machine.now) small.now) }
     ensures reportable { IfOk result IsReportable }
 {
-    match find_sending(small.first.as_slice(), small.reference) {
-        None => waiting(alloc, small, machine),
-        Some(sent) => settled(alloc, small, machine, &sent),
+    let first_zero = first_block(alloc, accepted, 0)?;
+    let first_one = first_block(alloc, accepted, 1)?;
+    let from_zero = find_letter(first_zero.sends.as_slice(), small.reference);
+    let from_one = find_letter(first_one.sends.as_slice(), small.reference);
+    match (from_zero, from_one) {
+        (Some(from_zero), Some(from_one)) => {
+            let second_zero = second_block(alloc, accepted, 0, from_one.argument)?;
+            let second_one = second_block(alloc, accepted, 1, from_zero.argument)?;
+            let served = Served {
+                first_zero,
+                second_zero,
+                first_one,
+                second_one,
+            };
+            settled(alloc, machine, served, from_zero.offset)
+        }
+        _ => waiting(alloc, machine, small, first_zero, first_one),
     }
 }
 
 // Both chares wait behind their first blocks.
-fn waiting(alloc: Global, small: &Small, machine: &Fitted) -> Result<Outcome, AllocError>
-    requires small { IsSmall small.now }
+fn waiting(
+    alloc: Global,
+    machine: &Fitted,
+    small: &Small,
+    zero: BlockDone,
+    one: BlockDone,
+) -> Result<Outcome, AllocError>
     requires chares { machine.now.chares ≡ 2 }
-    ensures value { IfOk result (λ o. o ≡ outcome_if (machine_of machine.now) small.now None) }
+    requires zero { IsCosted zero }
+    requires one { IsCosted one }
+    ensures value { IfOk result (λ o. o ≡ waiting_of (machine_of machine.now) small.now zero one) }
     ensures reportable { IfOk result IsReportable }
 {
-    let first = first_starts(small, machine);
+    let first = first_starts(machine, ticks(machine, zero.cost));
     let mut rows = List::new(alloc);
-    rows.push(first_row(alloc, small, machine, 0, first.zero)?)?;
-    rows.push(first_row(alloc, small, machine, 1, first.one)?)?;
+    rows.push(row(machine, 0, 1, first.zero, zero))?;
+    rows.push(row(machine, 1, 1, first.one, one))?;
     let mut waits = List::new(alloc);
     waits.push(wait_row(small, 0))?;
     waits.push(wait_row(small, 1))?;
@@ -71,29 +108,30 @@ fn waiting(alloc: Global, small: &Small, machine: &Fitted) -> Result<Outcome, Al
     })
 }
 
-// Each chare's second block follows the message of the other one's first block.
+// Each chare's second block follows the message of the other one's first block, which leaves at
+// this cost of it.
 fn settled(
     alloc: Global,
-    small: &Small,
     machine: &Fitted,
-    sent: &Sending,
+    served: Served,
+    offset: u64,
 ) -> Result<Outcome, AllocError>
-    requires small { IsSmall small.now }
     requires chares { machine.now.chares ≡ 2 }
-    requires early { (1 ≤ sent.now.offset) × (sent.now.offset ≤ 2 ^ 32) }
-    ensures value { IfOk result (λ o. o ≡ outcome_if (machine_of machine.now) small.now (Some sent.now)) }
+    requires costed { AreCosted served }
+    requires early { (1 ≤ offset) × (offset ≤ 2 ^ 32) }
+    ensures value { IfOk result (λ o. o ≡ settled_of (machine_of machine.now) served offset) }
     ensures reportable { IfOk result IsReportable }
 {
-    let first = first_starts(small, machine);
-    let second = second_starts(small, machine, sent);
-    let of_zero = given(sent.argument, 0, 0);
-    let of_one = given(sent.argument, 1, 0);
+    let time = ticks(machine, served.first_zero.cost);
+    let later = ticks(machine, served.second_zero.cost);
+    let first = first_starts(machine, time);
+    let second = second_starts(machine, time, later, offset);
     let rows = in_order(
         alloc,
-        first_row(alloc, small, machine, 0, first.zero)?,
-        second_row(alloc, small, machine, 0, of_one, second.zero)?,
-        first_row(alloc, small, machine, 1, first.one)?,
-        second_row(alloc, small, machine, 1, of_zero, second.one)?,
+        row(machine, 0, 1, first.zero, served.first_zero),
+        row(machine, 0, 3, second.zero, served.second_zero),
+        row(machine, 1, 1, first.one, served.first_one),
+        row(machine, 1, 3, second.one, served.second_one),
     )?;
     Ok(Outcome {
         rows,
@@ -154,38 +192,16 @@ fn way(machine: &Fitted, from: u32, to: u32) -> u64
 
 // ---- when blocks start
 
-ghost use Rattle.bs_small.specs.Times.{first_time as first_time_of, ready_one, ready_zero, second_time as second_time_of};
-
-fn first_time(small: &Small, machine: &Fitted) -> u64
-    requires small { IsSmall small.now }
-    requires chares { machine.now.chares ≡ 2 }
-    ensures value { result ≡ first_time_of (machine_of machine.now) small.now }
-    ensures least { 1 ≤ result }
-    ensures most { result < 2 ^ 48 }
-{
-    ticks(machine, cost(small.first.as_slice()))
-}
-
-fn second_time(small: &Small, machine: &Fitted) -> u64
-    requires small { IsSmall small.now }
-    requires chares { machine.now.chares ≡ 2 }
-    ensures value { result ≡ second_time_of (machine_of machine.now) small.now }
-    ensures least { 1 ≤ result }
-    ensures most { result < 2 ^ 48 }
-{
-    ticks(machine, cost(small.second.as_slice()))
-}
-
 // On one processor the block of chare 1 begins where that of chare 0 ends.
-fn first_starts(small: &Small, machine: &Fitted) -> Starts
-    requires small { IsSmall small.now }
+fn first_starts(machine: &Fitted, time: u64) -> Starts
     requires chares { machine.now.chares ≡ 2 }
-    ensures value { result ≡ first_starts_of (machine_of machine.now) small.now }
+    requires short { time < 2 ^ 48 }
+    ensures value { result ≡ first_starts_of (machine_of machine.now) time }
     ensures zero { result.zero ≡ 0 }
     ensures most { result.one < 2 ^ 48 }
 {
     let one = if home(machine, 0) == home(machine, 1) {
-        u128::from(first_time(small, machine))
+        u128::from(time)
     } else {
         0
     };
@@ -193,18 +209,17 @@ fn first_starts(small: &Small, machine: &Fitted) -> Starts
 }
 
 // When the second block of each chare is ready: behind its own first block and the message.
-fn ready(small: &Small, machine: &Fitted, sent: &Sending) -> Starts
-    requires small { IsSmall small.now }
+fn ready(machine: &Fitted, time: u64, offset: u64) -> Starts
     requires chares { machine.now.chares ≡ 2 }
-    requires early { (1 ≤ sent.now.offset) × (sent.now.offset ≤ 2 ^ 32) }
-    ensures zero { result.zero ≡ ready_zero (machine_of machine.now) small.now sent.now }
-    ensures one { result.one ≡ ready_one (machine_of machine.now) small.now sent.now }
+    requires short { time < 2 ^ 48 }
+    requires early { (1 ≤ offset) × (offset ≤ 2 ^ 32) }
+    ensures value { result ≡ ready_of (machine_of machine.now) time offset }
     ensures most_zero { result.zero ≤ 2 ^ 50 }
     ensures most_one { result.one ≤ 2 ^ 50 }
 {
-    let first = first_starts(small, machine);
-    let time = u128::from(first_time(small, machine));
-    let left = u128::from(ticks(machine, sent.offset));
+    let first = first_starts(machine, time);
+    let time = u128::from(time);
+    let left = u128::from(ticks(machine, offset));
     let to_zero = u128::from(way(machine, 1, 0));
     let to_one = u128::from(way(machine, 0, 1));
     Starts {
@@ -214,17 +229,18 @@ fn ready(small: &Small, machine: &Fitted, sent: &Sending) -> Starts
 }
 
 // On one processor the block that is ready first goes first, and that of chare 0 on a tie.
-fn second_starts(small: &Small, machine: &Fitted, sent: &Sending) -> Starts
-    requires small { IsSmall small.now }
+fn second_starts(machine: &Fitted, time: u64, later: u64, offset: u64) -> Starts
     requires chares { machine.now.chares ≡ 2 }
-    requires early { (1 ≤ sent.now.offset) × (sent.now.offset ≤ 2 ^ 32) }
-    ensures value { result ≡ second_starts_of (machine_of machine.now) small.now sent.now }
+    requires short { time < 2 ^ 48 }
+    requires later_short { later < 2 ^ 48 }
+    requires early { (1 ≤ offset) × (offset ≤ 2 ^ 32) }
+    ensures value { result ≡ second_starts_of (machine_of machine.now) time later offset }
     ensures most_zero { result.zero ≤ 2 ^ 52 }
     ensures most_one { result.one ≤ 2 ^ 52 }
 {
-    let first = first_starts(small, machine);
-    let time = u128::from(first_time(small, machine));
-    let ready = ready(small, machine, sent);
+    let first = first_starts(machine, time);
+    let ready = ready(machine, time, offset);
+    let time = u128::from(time);
     if home(machine, 0) != home(machine, 1) {
         Starts {
             zero: ready.zero.max(first.zero + time),
@@ -232,68 +248,34 @@ fn second_starts(small: &Small, machine: &Fitted, sent: &Sending) -> Starts
         }
     } else if ready.zero <= ready.one {
         let zero = ready.zero.max(first.one + time);
-        let one = ready
-            .one
-            .max(zero + u128::from(second_time(small, machine)));
+        let one = ready.one.max(zero + u128::from(later));
         Starts { zero, one }
     } else {
         let one = ready.one.max(first.one + time);
-        let zero = ready
-            .zero
-            .max(one + u128::from(second_time(small, machine)));
+        let zero = ready.zero.max(one + u128::from(later));
         Starts { zero, one }
     }
 }
 
 // ---- rows
 
-fn first_row(
-    alloc: Global,
-    small: &Small,
-    machine: &Fitted,
-    chare: u32,
-    start: u128,
-) -> Result<OutRow, AllocError>
-    requires small { IsSmall small.now }
+// The row of a chare's block, of a statement of this number and from this start.
+fn row(machine: &Fitted, chare: u32, stmt: u32, start: u128, block: BlockDone) -> OutRow
     requires chares { machine.now.chares ≡ 2 }
     requires chare { chare < 2 }
     requires early { start ≤ 2 ^ 52 }
-    ensures value { IfOk result (λ row. row ≡ first_row_of (machine_of machine.now) small.now chare start) }
-    ensures timed { IfOk result IsTimed }
+    requires costed { IsCosted block }
+    ensures value { result ≡ row_of (machine_of machine.now) chare stmt start block }
+    ensures timed { IsTimed result }
 {
-    Ok(OutRow {
+    OutRow {
         chare,
-        stmt: 1,
+        stmt,
         processor: home(machine, chare),
         start,
-        end: start + u128::from(first_time(small, machine)),
-        values: emitted(alloc, small.first.as_slice(), chare, 0)?,
-    })
-}
-
-fn second_row(
-    alloc: Global,
-    small: &Small,
-    machine: &Fitted,
-    chare: u32,
-    variable: i64,
-    start: u128,
-) -> Result<OutRow, AllocError>
-    requires small { IsSmall small.now }
-    requires chares { machine.now.chares ≡ 2 }
-    requires chare { chare < 2 }
-    requires early { start ≤ 2 ^ 52 }
-    ensures value { IfOk result (λ row. row ≡ second_row_of (machine_of machine.now) small.now chare variable start) }
-    ensures timed { IfOk result IsTimed }
-{
-    Ok(OutRow {
-        chare,
-        stmt: 3,
-        processor: home(machine, chare),
-        start,
-        end: start + u128::from(second_time(small, machine)),
-        values: emitted(alloc, small.second.as_slice(), chare, variable)?,
-    })
+        end: start + u128::from(ticks(machine, block.cost)),
+        values: block.emits,
+    }
 }
 
 fn wait_row(small: &Small, chare: u32) -> WaitRow
@@ -307,73 +289,4 @@ fn wait_row(small: &Small, chare: u32) -> WaitRow
             reference: small.reference,
         },
     }
-}
-
-// ---- acts
-
-// What is given on a chare, where the variable holds this.
-fn given(given: Given, chare: u32, variable: i64) -> i64
-    ensures { result ≡ value chare variable given }
-{
-    match given {
-        Given::Number(number) => number,
-        Given::Variable => variable,
-        Given::This => i64::from(chare),
-    }
-}
-
-// The cost of a block of these acts.
-fn cost(acts: &[SmallAct]) -> u64
-    requires few { length acts.now ≤ 100 }
-    requires small { AreSmallActs acts.now }
-    ensures value { result ≡ cost_after 1 acts.now }
-    ensures range { (1 ≤ result) × (result ≤ 2 ^ 32) }
-{
-    let mut cost = 1;
-    for act in acts {
-        if let SmallAct::Work(amount) = act {
-            cost += u64::from(*amount);
-        }
-    }
-    cost
-}
-
-fn emitted(
-    alloc: Global,
-    acts: &[SmallAct],
-    chare: u32,
-    variable: i64,
-) -> Result<List<i64>, AllocError>
-    ensures { IfOk result (λ out. out ≡ values chare variable acts.now) }
-{
-    let mut out = List::new(alloc);
-    for act in acts {
-        if let SmallAct::Emit(what) = act {
-            out.push(given(*what, chare, variable))?;
-        }
-    }
-    Ok(out)
-}
-
-// What is sent with a reference number.
-fn find_sending(acts: &[SmallAct], reference: i64) -> Option<Sending>
-    requires few { length acts.now ≤ 100 }
-    requires small { AreSmallActs acts.now }
-    ensures value { result ≡ sending_of 1 reference acts.now }
-    ensures early { IfSome result (λ sent. (1 ≤ sent.offset) × (sent.offset ≤ 2 ^ 32)) }
-{
-    let mut cost = 1;
-    for act in acts {
-        match act {
-            SmallAct::Work(amount) => cost += u64::from(*amount),
-            SmallAct::Send(number, argument) if *number == reference => {
-                return Some(Sending {
-                    offset: cost,
-                    argument: *argument,
-                });
-            }
-            _ => {}
-        }
-    }
-    None
 }

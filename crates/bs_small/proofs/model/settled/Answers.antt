@@ -18,5 +18,5 @@ returns-clause-reportable c =
     let rows = sym c.in_ok-rows.ensures in
     record {
       is_small = subst (λ rows. length rows ≤ 262144) rows (omega arith);
-      is_timed = subst (All IsTimed) rows (four IsTimed _ _ _ _ c.in_ok-first_row.ensures.timed c.in_ok-second_row.ensures.timed c.in_ok-first_row-2.ensures.timed c.in_ok-second_row-2.ensures.timed);
+      is_timed = subst (All IsTimed) rows (four IsTimed _ _ _ _ c.row.ensures.timed c.row-2.ensures.timed c.row-3.ensures.timed c.row-4.ensures.timed);
     }
