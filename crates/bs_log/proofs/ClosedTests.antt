@@ -125,7 +125,7 @@ behind : {X : Type 0} (m : X) (xs ys : List X) → Mem m ys → Mem m (xs ++ ys)
 behind m [] ys i = i
 behind m (x ∷ xs) ys i = inr (behind m xs ys i)
 
-either : {X : Type 0} (m : X) (xs ys : List X) → Mem m (xs ++ ys) → Mem m xs ⊎ Mem m ys
+pub either : {X : Type 0} (m : X) (xs ys : List X) → Mem m (xs ++ ys) → Mem m xs ⊎ Mem m ys
 either m [] ys i = inr i
 either m (x ∷ xs) ys (inl e) = inl (inl e)
 either {X} m (x ∷ xs) ys (inr i) = further (either m xs ys i)

@@ -2,3 +2,4 @@ pub mod ClosedTests
 pub mod Decided
 pub mod Links
 pub mod Numbers
+pub mod Order

@@ -113,7 +113,7 @@ below_first p xs r i j d l w e = by (same_or_below i j l)
     by (inl q) = subst (λ k. is_below (get_or xs k d).path p ≡ true) (sym q) e
     by (inr b) = (lt_is _).1 (nat_list_cmp_total.trans (get_or xs i d).path.0 (get_or xs j d).path.0 p.0 (rising_at xs i j d r b w) ((lt_is _).0 e))
 
-not_below_itself : (p q : Path) → p ≡ q → is_below p q ≡ true → ⊥
+pub not_below_itself : (p q : Path) → p ≡ q → is_below p q ≡ true → ⊥
 not_below_itself p q e b = false≢true (ap is_lt (sym (tied_itself nat_list_cmp_total q.0)) ∙ subst (λ z. is_below z q ≡ true) e b)
 
 pub parted : (p : Path) (xs : List Block) (i : ℕ) → Rising xs → has_path xs p ≡ true → i ≤ length xs → IsPartitionPoint (λ b. is_below b.path p ≡ true) (λ b. is_below b.path p ≡ false) xs i → i ≡ place (λ b. same_path b.path p) xs

@@ -14,8 +14,8 @@ use std::alloc::{AllocError, Global};
 /// the program has so many entries. Its only refusal is want of memory.
 ///
 /// Each block is a row, in the order of (chare, path), and its causes are told by the numbers of
-/// rows, counted from 1, in their order. Then come the traps and the waits, each in the order of
-/// (chare, path).
+/// rows, counted from 1, in the order in which the block has them (`numbers_rise` says that they
+/// rise). Then come the traps and the waits, each in the order of (chare, path).
 pub fn collect(alloc: Global, histories: &[History], entries: u32) -> Result<Log, AllocError>
     requires { LooksClosed histories.now }
     ensures { IfOk result (λ log. log ≡ log_of histories.now entries) }
