@@ -14,4 +14,6 @@ pub use perform::perform_alone;
 pub use status::Status;
 
 #[cfg(test)]
+mod tables;
+#[cfg(test)]
 mod tests;

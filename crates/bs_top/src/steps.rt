@@ -1,12 +1,12 @@
 // The steps of a command, up to its reply.
-ghost use Rattle.std.specs.Prelude.{◌≡◌, ◌≤◌, ℕ, List as PlainList, IfErr, IfOk, IfSome, Some};
+ghost use Rattle.std.specs.Prelude.{◌≡◌, ◌≤◌, IfErr, IfOk, IfSome, Some};
 ghost use Rattle.bs_desk.specs.Outside.{IsReading};
 ghost use Rattle.bs_machine.specs.File.{machine_in};
 ghost use Rattle.bs_machine.specs.Machine.{flat_in, machine_view};
 ghost use Rattle.bs_check.specs.Refusal.{IsWhole};
 ghost use Rattle.bs_parse.specs.Text.{HasText};
 ghost use Rattle.bs_print.specs.Canonical.{text_of};
-ghost use Rattle.bs_small.specs.Form.{IsSmall, program_of};
+ghost use Rattle.bs_small.specs.Program.{IsSmallProgram};
 ghost use Rattle.bs_top.specs.Answer.{IsReport, accepted as accepted_of, checked, contents, fits, machine_named, or_bad_machine, program_in, reply_to, simulated};
 ghost use Rattle.bs_top.specs.Causes.{HasRead, StepCause};
 ghost use Rattle.bs_top.specs.Computing.{Computes, IsSmallOf};
@@ -117,14 +117,14 @@ fn accept(alloc: Global, program: Program) -> Result<Accepted, Stop>
 }
 
 // Runs a program on a machine.
-fn simulate(alloc: Global, program: &Program, machine: Machine) -> Result<Reply, Stop>
-    requires { (1 ≤ program.now.chares) × (program.now.chares ≤ 65536) }
+fn simulate(alloc: Global, accepted: &Accepted, machine: Machine) -> Result<Reply, Stop>
+    requires { (1 ≤ accepted.now.program.chares) × (accepted.now.program.chares ≤ 65536) }
     ensures kind { Computes result }
-    ensures told { Told said_of (simulated program.now (machine_view machine)) result }
+    ensures told { Told said_of (simulated accepted.now.program (machine_view machine)) result }
 {
-    let fitted = fit(machine, program.chares as u32)?;
-    let small = small_program(alloc, program)?;
-    Ok(report_of(alloc, &small, &fitted)?)
+    let fitted = fit(machine, accepted.chares())?;
+    let small = small_program(alloc, accepted.program())?;
+    Ok(report_of(alloc, accepted, &small, &fitted)?)
 }
 
 // What a program holds, if it is of the small form.
@@ -147,12 +147,17 @@ fn fit(machine: Machine, chares: u32) -> Result<Fitted, Stop>
 }
 
 // The report of the run of a program of the small form.
-fn report_of(alloc: Global, small: &Small, fitted: &Fitted) -> Result<Reply, AllocError>
-    requires small { IsSmall small.now }
-    requires chares { fitted.now.chares ≡ 2 }
-    ensures { IfOk result (λ reply. (x e : PlainList ℕ) → IsReport (program_of x e small.now) (machine_view fitted.now.machine) (said_of reply)) }
+fn report_of(
+    alloc: Global,
+    accepted: &Accepted,
+    small: &Small,
+    fitted: &Fitted,
+) -> Result<Reply, AllocError>
+    requires small { IsSmallProgram accepted.now.program small.now }
+    requires chares { fitted.now.chares ≡ accepted.now.program.chares }
+    ensures { IfOk result (λ reply. IsReport accepted.now.program (machine_view fitted.now.machine) (said_of reply)) }
 {
-    let outcome = run(alloc, small, fitted)?;
+    let outcome = run(alloc, accepted, small, fitted)?;
     let text = report(alloc, &outcome)?;
     Ok(Reply {
         end: end(&outcome),
@@ -194,5 +199,5 @@ pub(crate) fn model<D: Desk>(
 {
     let accepted = accepted(alloc, desk, name)?;
     let machine = machine(alloc, desk, word)?;
-    simulate(alloc, accepted.program(), machine)
+    simulate(alloc, &accepted, machine)
 }

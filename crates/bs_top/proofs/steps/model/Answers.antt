@@ -1,7 +1,7 @@
-use Rattle.std.proofs.Common.{refl, ap, Some, subst}
+use Rattle.std.proofs.Common.{refl, ap, Some}
 use Rattle.bs_desk.specs.Outside.{Outside}
 use Rattle.bs_machine.specs.Machine.{machine_view}
-use Rattle.bs_top.specs.Answer.{reply_to, simulated}
+use Rattle.bs_top.specs.Answer.{reply_to}
 use Rattle.bs_top.specs.Seen.{said_of, word_of}
 use Rattle.bs_top.specs.Step.{Told}
 use Rattle.bs_top.specs.Words.{model}
@@ -35,4 +35,4 @@ returns-clause-told g c =
     let m = machine_view c.in_ok-machine.machine in
     each_two old mid _ _ _ (ap (λ (o : Outside). o.files) c.in_ok-accepted.ensures.reading) (λ files h k.
     on_machine files c.args.name.now c.in_ok-accepted.accepted.program h (word_of c.args.word) m c.simulate.result k
-    (subst (λ q. Told said_of (simulated q m) c.simulate.result) c.program.ensures c.simulate.ensures.told)) c.in_ok-accepted.ensures.told c.in_ok-machine.ensures.told
+    c.simulate.ensures.told) c.in_ok-accepted.ensures.told c.in_ok-machine.ensures.told
