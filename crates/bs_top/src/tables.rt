@@ -1,6 +1,7 @@
 // Texts of programs, programs that break a rule, and machine files, each with what is told of it.
 use crate::{Status, perform_alone};
 use bs_desk::{MemoryDesk, Port};
+use bs_words::read_words;
 use std::alloc::{AllocError, Global};
 use std::process::Abort;
 use std::test::Fail;
@@ -728,6 +729,45 @@ fn keys_that_are_none(rt: HostRuntime) -> Result<(), Fail> {
         machine.push_str(more)?;
         let line = format!(in rt.alloc(); "bad machine: {why}\n")?;
         performed(&rt, machine.as_str(), Status::BadMachine, line.as_str())?;
+    }
+    Ok(())
+}
+
+// Whether words, given on a line, are a command.
+fn are_command(alloc: Global, line: &str) -> Result<bool, AllocError> {
+    let mut words = Vec::new(alloc);
+    for word in line.split(' ') {
+        words.push(String::from_str(alloc, word)?)?;
+    }
+    Ok(read_words(alloc, words.as_slice()).is_ok())
+}
+
+#[test]
+fn each_option_at_each_place(rt: HostRuntime) -> Result<(), Fail> {
+    for (verb, option) in [
+        ("run", "--limit 5"),
+        ("model", "--limit 262144"),
+        ("run", "--workers 64"),
+        ("run", "--waves 1"),
+        ("predict", "--journal j"),
+    ] {
+        for line in [
+            format!(in rt.alloc(); "{option} {verb} a b")?,
+            format!(in rt.alloc(); "{verb} {option} a b")?,
+            format!(in rt.alloc(); "{verb} a b {option}")?,
+        ] {
+            assert!(rt; are_command(rt.alloc(), line.as_str())?, "{line}");
+        }
+        for line in [
+            format!(in rt.alloc(); "{verb} a {option} b")?,
+            format!(in rt.alloc(); "{verb} a b {option} {option}")?,
+            format!(in rt.alloc(); "{option} {verb} a b {option}")?,
+            format!(in rt.alloc(); "{option} {verb} a")?,
+            format!(in rt.alloc(); "check a {option}")?,
+            format!(in rt.alloc(); "{option}")?,
+        ] {
+            assert!(rt; !are_command(rt.alloc(), line.as_str())?, "{line}");
+        }
     }
     Ok(())
 }
