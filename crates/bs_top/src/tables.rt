@@ -555,40 +555,42 @@ fn waits_at_their_limit(rt: HostRuntime) -> Result<(), Fail> {
     )
 }
 
-// The keys of a machine file, each with its table and a value.
-const KEYS: [(&str, &str, &str); 11] = [
-    ("torus", "sizes", "[2]"),
-    ("torus", "per_node", "1"),
-    ("place", "kind", "\"cycle\""),
-    ("speed", "num", "1"),
-    ("speed", "den", "1"),
-    ("latency", "self", "1"),
-    ("latency", "local", "1"),
-    ("latency", "base", "5"),
-    ("latency", "hop", "0"),
-    ("latency", "bytes_num", "1"),
-    ("latency", "bytes_den", "64"),
+// The keys of a machine file: the line of its table before the first key of each, the key as it is
+// told, the key itself, and a value.
+const KEYS: [(&str, &str, &str, &str); 11] = [
+    ("[torus]\n", "torus.sizes", "sizes", "[2]"),
+    ("", "torus.per_node", "per_node", "1"),
+    ("[place]\n", "place.kind", "kind", "\"cycle\""),
+    ("[speed]\n", "speed.num", "num", "1"),
+    ("", "speed.den", "den", "1"),
+    ("[latency]\n", "latency.self", "self", "1"),
+    ("", "latency.local", "local", "1"),
+    ("", "latency.base", "base", "5"),
+    ("", "latency.hop", "hop", "0"),
+    ("", "latency.bytes_num", "bytes_num", "1"),
+    ("", "latency.bytes_den", "bytes_den", "64"),
 ];
+
+// The line of a key, or nothing where the value is empty.
+fn push_key(text: &mut String, key: &str, value: &str) -> Result<(), AllocError> {
+    if !value.is_empty() {
+        text.push_str(key)?;
+        text.push_str(" = ")?;
+        text.push_str(value)?;
+        text.push_str("\n")?;
+    }
+    Ok(())
+}
 
 // A machine file with another value of a key, and without the key where the value is empty.
 fn machine_with(alloc: Global, wanted: &str, other: &str) -> Result<String, AllocError> {
     let mut text = String::new(alloc);
-    let mut last = "";
-    for (table, key, value) in &KEYS {
-        if *table != last {
-            let head = format!(in alloc; "[{table}]\n")?;
-            text.push_str(head.as_str())?;
-            last = table;
-        }
-        let name = format!(in alloc; "{table}.{key}")?;
-        let value = if name.as_str() == wanted {
-            other
+    for (head, name, key, value) in &KEYS {
+        text.push_str(head)?;
+        if *name == wanted {
+            push_key(&mut text, key, other)?;
         } else {
-            value
-        };
-        if !value.is_empty() {
-            let line = format!(in alloc; "{key} = {value}\n")?;
-            text.push_str(line.as_str())?;
+            push_key(&mut text, key, value)?;
         }
     }
     Ok(text)
@@ -618,9 +620,8 @@ fn performed(
 
 #[test]
 fn each_key_is_needed(rt: HostRuntime) -> Result<(), Fail> {
-    for (table, key, _) in &KEYS {
-        let name = format!(in rt.alloc(); "{table}.{key}")?;
-        let machine = machine_with(rt.alloc(), name.as_str(), "")?;
+    for (_, name, _, _) in &KEYS {
+        let machine = machine_with(rt.alloc(), name, "")?;
         let line = format!(in rt.alloc(); "bad machine: missing {name}\n")?;
         performed(&rt, machine.as_str(), Status::BadMachine, line.as_str())?;
     }
