@@ -1,0 +1,11 @@
+//! The rounds of a program, and the verdict on it.
+//!
+//! `docs/model.md` says what a round is, and what decides.
+#![tactic(auto)]
+
+mod answer;
+mod rounds;
+
+pub use answer::{At, Twice, Verdict};
+pub use bs_history::{HistoryFault, history};
+pub use rounds::verdict;
