@@ -154,6 +154,9 @@ fn division_truncates(rt: HostRuntime) -> Result<(), Fail> {
     let least = two(alloc, Op2::Sub, negative(alloc, i64::MAX)?, Expr::Number(1))?;
     let beyond = two(alloc, Op2::Div, least, negative(alloc, 1)?)?;
     assert_eq!(rt; value(alloc, &beyond)?, Err(TrapKind::Overflow));
+    let least = two(alloc, Op2::Sub, negative(alloc, i64::MAX)?, Expr::Number(1))?;
+    let none_left = two(alloc, Op2::Rem, least, negative(alloc, 1)?)?;
+    assert_eq!(rt; value(alloc, &none_left)?, Err(TrapKind::Overflow));
     Ok(())
 }
 
@@ -247,5 +250,38 @@ fn the_target_comes_before_the_bytes(rt: HostRuntime) -> Result<(), Fail> {
         (Some(TrapKind::BytesRange), 4)
     );
     assert_eq!(rt; trap(alloc, &sending(alloc, 0, 1_073_741_824)?)?, (None, 4));
+    Ok(())
+}
+
+// repeat 3 { work 1073741824; } work LAST;
+fn working(alloc: Global, last: i64) -> Result<List<Act>, AllocError>
+    ensures { IfOk result (λ acts. IsTrue (are_known example acts) × IsTrue (are_counted example acts)) }
+{
+    let body = List::from_vec(vec![in alloc; Act::Work(Expr::Number(1_073_741_824))]?);
+    let acts = vec![in alloc;
+        Act::Repeat(Expr::Number(3), body),
+        Act::Work(Expr::Number(last)),
+    ]?;
+    Ok(List::from_vec(acts))
+}
+
+#[test]
+fn the_amount_comes_before_the_cost(rt: HostRuntime) -> Result<(), Fail> {
+    let alloc = rt.alloc();
+    // A cost of 2^32, and of one more.
+    assert_eq!(rt; trap(alloc, &working(alloc, 1_073_741_823)?)?, (None, 4));
+    assert_eq!(rt;
+        trap(alloc, &working(alloc, 1_073_741_824)?)?,
+        (Some(TrapKind::CostRange), 4)
+    );
+    // An amount of one more than 2^30, and one less than 0.
+    assert_eq!(rt;
+        trap(alloc, &working(alloc, 1_073_741_825)?)?,
+        (Some(TrapKind::WorkRange), 4)
+    );
+    assert_eq!(rt;
+        trap(alloc, &working(alloc, -1)?)?,
+        (Some(TrapKind::WorkRange), 4)
+    );
     Ok(())
 }
