@@ -1,4 +1,5 @@
--- In a closed set each depth below a block's depth is some block's, so no depth is above the number of blocks.
+-- Where each message of a mail is sent by the histories under it, each depth below a block's depth is some block's, so no
+-- depth is above the number of blocks.
 use Rattle.std.proofs.Common.{◌≡◌, ◌≤◌, ◌<◌, ◌⊎◌, inl, inr, ℕ, zero, suc, max, Bool, List, [], ◌∷◌, ◌++◌, Option, Some, None, Ok, refl, sym, ap, subst, ◌∙◌, map, length, arith, le_refl, zero-le}
 use Rattle.std.proofs.lemmas.Bool.{cases_lt}
 use Rattle.bs_tree.specs.declared.tree.Program.{Program}
@@ -12,6 +13,7 @@ use Rattle.bs_semantics.specs.Run.{Lookup, Run, State, Causes, serial, from_end,
 use Rattle.bs_semantics.specs.Rounds.{Mem, mail_to, sent, chares, histories, Closed}
 use Rattle.bs_log.specs.Size.{size_all}
 use Rattle.bs_semantics.specs.Depth.{all_blocks}
+use Rattle.bs_semantics.specs.Starting.{AllIn}
 use Rattle.bs_semantics.proofs.Options.{none_some, some_same}
 use Rattle.bs_semantics.proofs.Members.{mem_left, mem_right, mem_cases, mem_map}
 use Rattle.bs_semantics.proofs.CauseDepths.{union_depth, with_mail_depth, depth_in}
@@ -172,13 +174,13 @@ module _ (p : Program) (limit : ℕ) where
       by_side (inl i) g = record { chare = c; is_chare = inl refl; is_block = i }
       by_side (inr i) g = let h = g i in record { chare = h.chare; is_chare = inr h.is_chare; is_block = h.is_block }
 
-  module _ (all : List Message) (fixed : all ≡ sent (histories p limit all)) where
+  module _ (all : List Message) (are_sent : AllIn all (sent (histories p limit all))) where
     abbrev Occurs : ℕ → Type 0
     Occurs j = (x : Block) × Mem x (all_blocks (histories p limit all)) × (x.depth ≡ j)
 
     known : (c : ℕ) (k : Key) (m : Message) → mail_to all c k ≡ Some m → Occurs m.origin.depth
     known c k m e =
-        let h = from_block p limit (mail_to all) (chares p) m (subst (Mem m) fixed (found all c k m e).0) in
+        let h = from_block p limit (mail_to all) (chares p) m (are_sent m (found all c k m e).0) in
         (h.block, in_all (mail_to all) (chares p) h.chare h.block h.is_chare h.is_block, sym ((run_signed p limit h.chare (mail_to all h.chare) h.block h.is_block).depth m h.is_sent))
 
     rests : (x : Block) → Mem x (all_blocks (histories p limit all)) → Rests Occurs x.depth
@@ -216,16 +218,19 @@ module _ (p : Program) (limit : ℕ) where
         let m = length_map (all_blocks (histories p limit all)) in
         omega (arith, is, n, m)
 
-    pub low : size_all (histories p limit all) ≤ limit → (m : Message) → Mem m all → m.origin.depth ≤ limit
+    pub low : size_all (histories p limit all) ≤ limit → (m : Message) → Mem m (sent (histories p limit all)) → m.origin.depth ≤ limit
     low l m i =
-        let h = from_block p limit (mail_to all) (chares p) m (subst (Mem m) fixed i) in
+        let h = from_block p limit (mail_to all) (chares p) m i in
         let one = (run_signed p limit h.chare (mail_to all h.chare) h.block h.is_block).depth m h.is_sent in
         let two = shallow h.block (in_all (mail_to all) (chares p) h.chare h.block h.is_chare h.is_block) in
         let three = count_all (histories p limit all) in
         omega (arith, l, one, two, three)
 
+  all_sent : (hs : List History) → Closed p limit hs → AllIn (sent hs) (sent (histories p limit (sent hs)))
+  all_sent hs h m i = subst (λ hs. Mem m (sent hs)) h.same i
+
   pub closed_shallow : (hs : List History) → Closed p limit hs → (x : Block) → Mem x (all_blocks hs) → x.depth ≤ length (all_blocks hs)
-  closed_shallow hs h = subst (λ hs. (x : Block) → Mem x (all_blocks hs) → x.depth ≤ length (all_blocks hs)) (sym h.same) (shallow (sent hs) (ap sent h.same))
+  closed_shallow hs h = subst (λ hs. (x : Block) → Mem x (all_blocks hs) → x.depth ≤ length (all_blocks hs)) (sym h.same) (shallow (sent hs) (all_sent hs h))
 
   pub closed_low : (hs : List History) → Closed p limit hs → (m : Message) → Mem m (sent hs) → m.origin.depth ≤ limit
-  closed_low hs h = low (sent hs) (ap sent h.same) (subst (λ hs. size_all hs ≤ limit) h.same h.size)
+  closed_low hs h m i = low (sent hs) (all_sent hs h) (subst (λ hs. size_all hs ≤ limit) h.same h.size) m (all_sent hs h m i)

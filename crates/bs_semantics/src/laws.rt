@@ -57,11 +57,15 @@ pub fn confluence()
     ensures only { (p : Program) (limit n : ℕ) (hs : List History) → CleanAt p limit n → Closed p limit hs → hs ≡ round p limit n }
 {}
 
+ghost use Rattle.bs_semantics.specs.Starting.{AllIn};
+
 /// In closed histories no block is deeper than there are blocks, since each depth below a block's own
-/// is the depth of some block; and no message is deeper than the limit.
+/// is the depth of some block (`blocks`); and no message is deeper than the limit (`messages`). So it
+/// is under every mail that holds nothing but what the histories under it send (`rounds`).
 pub fn chains()
     ensures blocks { (p : Program) (limit : ℕ) (hs : List History) → Closed p limit hs → IsShallow hs }
     ensures messages { (p : Program) (limit : ℕ) (hs : List History) → Closed p limit hs → (m : Message) → Mem m (sent hs) → m.origin.depth ≤ limit }
+    ensures rounds { (p : Program) (limit : ℕ) (ms : List Message) → AllIn ms (sent (histories p limit ms)) → size_all (histories p limit ms) ≤ limit → (m : Message) → Mem m (sent (histories p limit ms)) → m.origin.depth ≤ limit }
 {}
 
 ghost use Rattle.bs_semantics.specs.Verdict.{Verdict, IsVerdict, ambiguous};
@@ -128,7 +132,7 @@ pub fn closed_sets()
 {}
 
 ghost use Rattle.bs_semantics.specs.Serial.{Started, histories_at, IsClean};
-ghost use Rattle.bs_semantics.specs.Starting.{AreBlocks, NoneEnabled, AllIn, IsWithinRound};
+ghost use Rattle.bs_semantics.specs.Starting.{AreBlocks, NoneEnabled, IsWithinRound};
 
 /// Where blocks that were started, in any order, are blocks of the histories under what they sent, these
 /// histories are clean, and no further block can be started, the histories are closed (`stuck`). And
