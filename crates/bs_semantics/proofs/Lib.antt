@@ -22,6 +22,7 @@ pub mod Numbering
 pub mod Rests
 pub mod SortedCauses
 pub mod ClosedSets
+pub mod LooksClosed
 pub mod Find
 pub mod Starting
 pub mod Reached

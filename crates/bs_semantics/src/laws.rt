@@ -131,6 +131,14 @@ pub fn closed_sets()
     ensures causes { (p : Program) (limit : ℕ) (hs : List History) → Closed p limit hs → (x : Block) → Mem x (all_blocks hs) → HasSortedCauses x }
 {}
 
+ghost use Rattle.bs_log.specs.ClosedTest.{LooksClosed};
+
+/// Closed histories of a program that has from 1 to 65536 chares, at a limit of at most 262144, pass
+/// the test of closed histories that the log's own words state.
+pub fn looks_closed()
+    ensures { (p : Program) (limit : ℕ) (hs : List History) → limit ≤ 262144 → 1 ≤ p.chares → p.chares ≤ 65536 → Closed p limit hs → LooksClosed hs }
+{}
+
 ghost use Rattle.bs_semantics.specs.Serial.{Started, histories_at, IsClean};
 ghost use Rattle.bs_semantics.specs.Starting.{AreBlocks, NoneEnabled, IsWithinRound};
 
