@@ -1,6 +1,6 @@
 -- Where each message of a mail is sent by the histories under it, each depth below a block's depth is some block's, so no
 -- depth is above the number of blocks.
-use Rattle.std.proofs.Common.{◌≡◌, ◌≤◌, ◌<◌, ◌⊎◌, inl, inr, ℕ, zero, suc, max, Bool, List, [], ◌∷◌, ◌++◌, Option, Some, None, Ok, refl, sym, ap, subst, ◌∙◌, map, length, arith, le_refl, zero-le}
+use Rattle.std.proofs.Common.{◌≡◌, ◌≤◌, ◌<◌, ◌⊎◌, inl, inr, ℕ, zero, suc, max, Bool, List, [], ◌∷◌, ◌++◌, Option, Some, None, Ok, refl, sym, ap, subst, map, length, arith, le_refl, zero-le}
 use Rattle.std.proofs.lemmas.Bool.{cases_lt}
 use Rattle.bs_tree.specs.declared.tree.Program.{Program}
 use Rattle.bs_log.specs.declared.history.Key.{Key}
@@ -22,6 +22,7 @@ use Rattle.bs_semantics.proofs.Mails.{found}
 use Rattle.bs_semantics.proofs.Signed.{run_signed}
 use Rattle.bs_semantics.proofs.Sets.{under, from_block}
 use Rattle.bs_semantics.proofs.Sizes.{count_all}
+use Rattle.bs_semantics.proofs.Distinct.{without}
 
 -- no depth, or one that occurs
 abbrev pub Good : (ℕ → Type 0) → ℕ → Type 0
@@ -122,27 +123,6 @@ module _ (D : ℕ → Type 0) where
     run_rest p limit c occ = (list_kept p limit c a a Justified (justified_closed p c) p.body 0 1 [] (start p) (inl refl) occ).blocks
 
 -- a list that holds each number from 1 to d is at least d long
-record Without (x : ℕ) (ns : List ℕ) : Type 0 where
-  rest : List ℕ
-  count : length ns ≡ suc (length rest)
-  others : (y : ℕ) → (y ≡ x → ⊥) → Mem y ns → Mem y rest
-
-without_more : (x n : ℕ) (ns : List ℕ) → Without x ns → Without x (n ∷ ns)
-without_more x n ns w = record { rest = n ∷ w.rest; count = ap suc w.count; others = λ y k m. other y k m }
-  where
-    other : (y : ℕ) → (y ≡ x → ⊥) → Mem y (n ∷ ns) → Mem y (n ∷ w.rest)
-    other y k (inl f) = inl f
-    other y k (inr i) = inr (w.others y k i)
-
-without : (x : ℕ) (ns : List ℕ) → Mem x ns → Without x ns
-without x [] m = absurd m
-without x (n ∷ ns) (inl e) = record { rest = ns; count = refl; others = λ y h m. other y h m }
-  where
-    other : (y : ℕ) → (y ≡ x → ⊥) → Mem y (n ∷ ns) → Mem y ns
-    other y h (inl f) = absurd (h (f ∙ sym e))
-    other y h (inr m) = m
-without x (n ∷ ns) (inr m) = without_more x n ns (without x ns m)
-
 pub long : (d : ℕ) (ns : List ℕ) → ((e : ℕ) → e < d → Mem (suc e) ns) → d ≤ length ns
 long zero ns h = zero-le
 long (suc d) ns h =

@@ -11,6 +11,7 @@ pub mod Mails
 pub mod Signed
 pub mod Sets
 pub mod Confluence
+pub mod Distinct
 pub mod Chains
 pub mod Ambiguous
 pub mod Verdicts
@@ -29,3 +30,6 @@ pub mod Reached
 pub mod Unrolled
 pub mod Examples
 pub mod OneSerial
+pub mod Least
+pub mod Deciding
+pub mod SomeSerial

@@ -158,8 +158,21 @@ pub fn one_serial()
     ensures { (p : Program) (limit : ℕ) (m : Machine) (r s : Simulated) → IsSerial p limit m r → IsSerial p limit m s → r ≡ s }
 {}
 
-ghost use Rattle.bs_log.specs.declared.outcome.Outcome.{Outcome};
 ghost use Rattle.bs_semantics.specs.Serial.{unclean, timed};
+
+/// **The model always has an answer.** For every program, limit and machine the serial machine model
+/// gives an answer (`some`). So it gives `unclean` where no round is Clean (`unclean`): an outcome
+/// would show one.
+///
+/// There is no premise on the program or on the machine. The model comes to its end since the blocks
+/// that it starts are blocks of the histories, each once, and in a clean state these are no more than
+/// the limit.
+pub fn some_serial()
+    ensures some { (p : Program) (limit : ℕ) (m : Machine) → (r : Simulated) × IsSerial p limit m r }
+    ensures unclean { (p : Program) (limit : ℕ) (m : Machine) → ((n : ℕ) → CleanAt p limit n → ⊥) → IsSerial p limit m unclean }
+{}
+
+ghost use Rattle.bs_log.specs.declared.outcome.Outcome.{Outcome};
 ghost use Rattle.bs_semantics.specs.Reached.{IsReached, Shows};
 
 /// **Serial.** Where the verdict is Clean, each state that the serial machine model reaches is clean
