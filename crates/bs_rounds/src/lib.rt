@@ -4,6 +4,7 @@
 #![tactic(auto)]
 
 mod answer;
+mod naming;
 mod rounds;
 
 pub use answer::{At, Twice, Verdict};

@@ -1,0 +1,3 @@
+pub mod NamingLeast
+pub mod NamingPlaces
+pub mod NamingMarks
