@@ -8,3 +8,6 @@ pub mod Clashes
 pub mod PartByPart
 pub mod Everything
 pub mod Verdict
+pub mod Fitness
+pub mod Ends
+pub mod Standing

@@ -4,8 +4,10 @@ pub mod Every
 pub mod Interference
 pub mod Declarations
 pub mod Rules
+pub mod Fits
 pub mod Refusal
 pub mod Table
 pub mod Touches
 pub mod Walked
+pub mod Numbers
 pub mod Accepted

@@ -212,16 +212,23 @@ fn declarations_are_statement_0(rt: HostRuntime) -> Result<(), Fail> {
 }
 
 #[test]
-fn an_accepted_program_tells_its_names(rt: HostRuntime) -> Result<(), Fail> {
-    let program = program(rt.alloc(), List::new(rt.alloc()))?;
+fn an_accepted_program_tells_its_names_and_numbers(rt: HostRuntime) -> Result<(), Fail> {
+    let alloc = rt.alloc();
+    let inside = list_of(alloc, serial(alloc, Act::Work(Expr::This))?)?;
+    let last = serial(alloc, Act::Emit(Expr::Var(X)))?;
+    let program = program(alloc, two_of(alloc, Stmt::Seq(inside), last)?)?;
     if !is_whole(&program) {
         return Ok(());
     }
-    let Ok(accepted) = check(rt.alloc(), program) else {
+    let Ok(accepted) = check(alloc, program) else {
         return Ok(());
     };
     assert_eq!(rt; accepted.kind(GO), Kind::Entry(0, 1));
     assert_eq!(rt; accepted.cells(), 4);
     assert_eq!(rt; accepted.program().chares, 2);
+    assert!(rt; statements(&accepted.program().body) == 3);
+    assert_eq!(rt; accepted.after(1), 3);
+    assert_eq!(rt; accepted.after(2), 3);
+    assert_eq!(rt; accepted.after(3), 4);
     Ok(())
 }
