@@ -87,7 +87,7 @@ fn is_run(
         Port::Out
     };
     assert_eq!(rt; desk.written(port), text.as_bytes(), "{program}");
-    assert_eq!(rt; desk.written(other), b"", "{program}");
+    assert_eq!(rt; desk.written(other), "".as_bytes(), "{program}");
     Ok(())
 }
 
@@ -714,6 +714,6 @@ fn a_limit_of_nothing(rt: HostRuntime) -> Result<(), Fail> {
         perform_alone(rt.alloc(), words.as_slice(), &mut desk),
         Status::BadWords
     );
-    assert_eq!(rt; desk.written(Port::Err), b"bad words\n");
+    assert_eq!(rt; desk.written(Port::Err), "bad words\n".as_bytes());
     Ok(())
 }
