@@ -15,7 +15,7 @@ use Rattle.bs_semantics.specs.Value.{Value, value_of}
 use Rattle.bs_history.specs.declared.ground.Ground.{Ground}
 use Rattle.bs_check.specs.Known.{is_known}
 use Rattle.std.proofs.lemmas.Bool.{and_parts}
-use Rattle.bs_history.specs.Fits.{fit_step, is_fit, are_fit, is_set_fit, is_for_fit}
+use Rattle.bs_check.specs.Fits.{fit_step, is_fit, are_fit, is_set_fit, is_for_fit}
 use Rattle.bs_history.specs.Ground.{program_of, means, mail_of}
 use Rattle.bs_semantics.specs.Run.{Run, State as PlainState, turns, no_step, assign, in_turn, keys_of, ask, took, any_part, overlap, with, branch, ends, Meant, meant, meant_step, counts, else_counts, count_step}
 

@@ -9,7 +9,7 @@ use Rattle.bs_tree.specs.declared.tree.Program.{Program}
 use Rattle.bs_check.specs.Known.{all_true, is_entry, is_known, is_scalar}
 use Rattle.bs_semantics.specs.Value.{Cells}
 use Rattle.bs_semantics.specs.Run.{Lookup, held, take_args, take_mail}
-use Rattle.bs_history.specs.Fits.{is_wait_fit}
+use Rattle.bs_check.specs.Fits.{is_wait_fit}
 use Rattle.bs_log.specs.declared.history.Key.{Key}
 use Rattle.bs_log.specs.declared.history.Message.{Message}
 use Rattle.bs_log.specs.declared.history.TrapKind.{TrapKind}

@@ -1,7 +1,7 @@
 -- How control goes on.
 use Rattle.std.specs.Prelude.{◌≡◌, ℤ, ℕ, Bool, true, not, ◌&&◌, List, Option, Some, None}
 use Rattle.bs_tree.specs.declared.tree.Program.{Program}
-use Rattle.bs_history.specs.Fits.{is_set_fit}
+use Rattle.bs_check.specs.Fits.{is_set_fit}
 use Rattle.bs_semantics.specs.Layout.{place_of}
 use Rattle.bs_semantics.specs.Value.{is_zero, value_of}
 use Rattle.bs_semantics.specs.Run.{Run, State as PlainState, assign, no_step}

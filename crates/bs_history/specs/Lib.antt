@@ -3,7 +3,6 @@ pub mod Causes
 pub mod Trail
 pub mod Ground
 pub mod Serial
-pub mod Fits
 pub mod Control
 pub mod Waiting
 pub mod Joined

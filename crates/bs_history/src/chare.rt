@@ -1,9 +1,7 @@
 // The history of a chare under a mail.
-ghost use Rattle.std.specs.Prelude.{◌≤◌, ◌<◌, All, IsTrue};
-ghost use Rattle.bs_tree.specs.Count.{statements_in};
+ghost use Rattle.std.specs.Prelude.{◌≤◌, ◌<◌, All};
 ghost use Rattle.bs_match.specs.Mail.{lookup};
 ghost use Rattle.bs_semantics.specs.Run.{history as history_of};
-ghost use Rattle.bs_history.specs.Fits.{are_fit};
 ghost use Rattle.bs_history.specs.History.{IsHistory};
 
 use crate::causes::Causes;
@@ -13,17 +11,15 @@ use crate::statements::run_list;
 use crate::trail::Trail;
 use bs_block::Env;
 use bs_check::Accepted;
+use bs_check::laws::accepted_programs;
 use bs_log::History;
 use bs_match::Mail;
 use std::alloc::Global;
 
 /// The history of a chare of an accepted program under a mail, whose messages have depths of at most
-/// 262,144. The limit is at most 262,144, the names of the program are declared as what they are used
-/// for, its messages have as many arguments as their entries have parameters, and it has at most 10,000
-/// statements.
+/// 262,144. The limit is from 1 to 262,144.
 ///
-/// `Long` comes only where the size of the history is above the limit, and a history that is answered is
-/// within it. `Memory` says nothing of the history.
+/// `Long` comes exactly where the size of the history is above the limit, but for want of memory.
 pub fn history(
     alloc: Global,
     accepted: &Accepted,
@@ -31,8 +27,6 @@ pub fn history(
     mail: &Mail,
     limit: u64,
 ) -> Result<History, HistoryFault>
-    requires fits { IsTrue (are_fit accepted.now.program accepted.now.program.body) }
-    requires statements { statements_in accepted.now.program.body ≤ 10000 }
     requires chare { chare < accepted.now.program.chares }
     requires shallow { All (λ m. m.origin.depth ≤ 262144) mail.now }
     requires limit { limit ≤ 262144 }
@@ -50,6 +44,8 @@ pub fn history(
         env: Env::new(alloc, accepted, chare)?,
         causes: Causes::new(alloc),
     };
+    // Its names are declared as what they are used for.
+    accepted_programs();
     let body = accepted.program().body.as_slice();
     let ended = run_list(&ground, body, 1, &mut trail, &mut state)?;
     let Trail {

@@ -5,7 +5,7 @@ ghost use Rattle.bs_semantics.specs.Layout.{all_cells, place_of};
 ghost use Rattle.bs_semantics.specs.Run.{assign, with};
 ghost use Rattle.bs_semantics.specs.Value.{value_of};
 ghost use Rattle.bs_history.specs.Control.{is_step_fit, is_true, step_of};
-ghost use Rattle.bs_history.specs.Fits.{is_set_fit};
+ghost use Rattle.bs_check.specs.Fits.{is_set_fit};
 ghost use Rattle.bs_history.specs.Ground.{Finds, IsReady, Steps, program_of, state_of};
 
 use crate::fault::HistoryFault;

@@ -3,7 +3,7 @@ ghost use Rattle.std.specs.Prelude.{◌≡◌, IfOk, IsTrue};
 ghost use Rattle.bs_semantics.specs.Run.{both};
 ghost use Rattle.bs_block.specs.Env.{MadeFor};
 ghost use Rattle.bs_history.specs.declared.trail.Trail.{Trail};
-ghost use Rattle.bs_history.specs.Fits.{is_fit};
+ghost use Rattle.bs_check.specs.Fits.{is_fit};
 ghost use Rattle.bs_history.specs.Ground.{IsReady, means, program_of, reached};
 ghost use Rattle.bs_history.specs.Joined.{IsJoined, IsMade, state_in};
 

@@ -6,7 +6,7 @@ ghost use Rattle.bs_semantics.specs.Run.{ask, assign, in_turn, keys_of, overlap,
 ghost use Rattle.bs_semantics.specs.Layout.{place_of};
 ghost use Rattle.bs_semantics.specs.Value.{value_of};
 ghost use Rattle.bs_history.specs.Control.{is_step_fit, step_of};
-ghost use Rattle.bs_history.specs.Fits.{are_fit, are_waits_fit, is_fit, is_for_fit};
+ghost use Rattle.bs_check.specs.Fits.{are_fit, are_waits_fit, is_fit, is_for_fit};
 ghost use Rattle.bs_history.specs.Ground.{IsReady, Runs, mail_of, means, program_of, state_of};
 
 use crate::control::{Step, assign, take_step, test};

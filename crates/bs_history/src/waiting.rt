@@ -3,7 +3,7 @@ ghost use Rattle.std.specs.Prelude.{◌≡◌, ◌≤◌, All, IfOk, IsTrue, opt
 ghost use Rattle.bs_check.specs.Known.{all_true, is_scalar};
 ghost use Rattle.bs_semantics.specs.Run.{ask, held, keys_of, missing, take_args, take_mail, took, with};
 ghost use Rattle.bs_block.specs.Env.{MadeFor};
-ghost use Rattle.bs_history.specs.Fits.{are_waits_fit};
+ghost use Rattle.bs_check.specs.Fits.{are_waits_fit};
 ghost use Rattle.bs_history.specs.Ground.{IsReady, Steps, mail_of, program_of, state_of};
 ghost use Rattle.bs_history.specs.Trail.{IsWithin, Writes};
 ghost use Rattle.bs_history.specs.Waiting.{AreHeld, AreKeys, all_keys_asked, all_keys_missing};

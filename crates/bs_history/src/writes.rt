@@ -5,7 +5,7 @@ ghost use Rattle.bs_semantics.specs.Acts.{act_writes, any_writes};
 ghost use Rattle.bs_semantics.specs.Layout.{owns};
 ghost use Rattle.bs_semantics.specs.Run.{any_part, mix, params_own, waits_own};
 ghost use Rattle.bs_block.specs.Env.{MadeFor};
-ghost use Rattle.bs_history.specs.Fits.{are_fit, are_waits_fit, is_fit};
+ghost use Rattle.bs_check.specs.Fits.{are_fit, are_waits_fit, is_fit};
 ghost use Rattle.bs_history.specs.Ground.{means, program_of};
 
 use crate::ground::Ground;

@@ -6,7 +6,7 @@ use Rattle.bs_semantics.specs.Run.{Run, State as PlainState, turns, assign, in_t
 use Rattle.bs_semantics.specs.Layout.{place_of}
 use Rattle.bs_block.proofs.Items.{each_left}
 use Rattle.bs_history.specs.Control.{step_of}
-use Rattle.bs_history.specs.Fits.{is_fit, are_fit}
+use Rattle.bs_check.specs.Fits.{is_fit, are_fit}
 use Rattle.bs_history.specs.Trail.{so_far}
 use Rattle.bs_history.specs.Ground.{IsReady, Runs, Did, program_of, mail_of, means, state_of}
 use Rattle.bs_history.proofs.Lefts.{onward_err, runs_on, steps_long, goes_left}

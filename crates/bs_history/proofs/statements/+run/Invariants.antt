@@ -3,7 +3,7 @@ use Rattle.bs_tree.specs.Count.{statements_in}
 use Rattle.bs_semantics.specs.Value.{value_of}
 use Rattle.bs_semantics.specs.Run.{State as PlainState, in_turn, turns, parts, overlap}
 use Rattle.bs_history.specs.Control.{step_of}
-use Rattle.bs_history.specs.Fits.{are_fit}
+use Rattle.bs_check.specs.Fits.{are_fit}
 use Rattle.bs_history.specs.Ground.{Left, program_of, mail_of, means, state_of}
 use Rattle.bs_history.specs.Joined.{IsJoined, bare, state_in}
 use Rattle.bs_history.proofs.statements.+run.Given as goal

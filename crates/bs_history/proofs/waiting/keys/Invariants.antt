@@ -1,6 +1,6 @@
 use Rattle.std.proofs.Common.{◌≡◌, true, drop}
 use Rattle.bs_semantics.specs.Run.{keys_of}
-use Rattle.bs_history.specs.Fits.{are_waits_fit}
+use Rattle.bs_check.specs.Fits.{are_waits_fit}
 use Rattle.bs_history.specs.Ground.{program_of}
 use Rattle.bs_history.proofs.Waits.{after_keys}
 use Rattle.bs_history.proofs.waiting.keys.Given as goal

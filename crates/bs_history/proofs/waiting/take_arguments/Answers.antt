@@ -1,6 +1,6 @@
 use Rattle.std.proofs.Common.{◌≡◌, ◌<◌, true, length, map, arith, sym, subst, ◌∙◌}
 use Rattle.bs_check.specs.Known.{all_true, is_scalar}
-use Rattle.bs_history.specs.Fits.{is_wait_fit}
+use Rattle.bs_check.specs.Fits.{is_wait_fit}
 use Rattle.bs_history.proofs.Waits.{each_at, params_fit, mail_end}
 use Rattle.bs_history.proofs.waiting.take_arguments.Goals as goal
 

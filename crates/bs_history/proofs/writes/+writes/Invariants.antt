@@ -1,6 +1,6 @@
 use Rattle.std.proofs.Common.{◌≡◌, true, drop, map}
 use Rattle.bs_semantics.specs.Run.{any_part}
-use Rattle.bs_history.specs.Fits.{are_fit}
+use Rattle.bs_check.specs.Fits.{are_fit}
 use Rattle.bs_history.specs.Ground.{means, program_of}
 use Rattle.bs_history.proofs.writes.+writes.Given as goal
 

@@ -1,6 +1,6 @@
 use Rattle.std.proofs.Common.{◌≡◌, true, drop, map}
 use Rattle.bs_semantics.specs.Run.{waits_own}
-use Rattle.bs_history.specs.Fits.{are_waits_fit}
+use Rattle.bs_check.specs.Fits.{are_waits_fit}
 use Rattle.bs_history.proofs.writes.any_wait_writes.Given as goal
 
 abbrev pub invariant-loop-wait : goal.invariant-loop-wait
