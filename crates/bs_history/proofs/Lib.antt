@@ -10,3 +10,4 @@ pub mod Asked
 pub mod Mixes
 pub mod Joins
 pub mod Histories
+pub mod Takings

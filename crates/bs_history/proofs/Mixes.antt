@@ -1,38 +1,47 @@
 -- The cells of a part beside those of the others.
-use Rattle.std.proofs.Common.{◌≡◌, ◌≤◌, ◌<◌, ℕ, suc, zero, ◌+◌, arith, List, [], ◌∷◌, ◌++◌, length, get_or, set, take, drop, Bool, true, false, if◌then◌else◌, refl, sym, ap, ap₂, append_assoc, append-nil, take_all, drop-set-lt, lt-suc_self, subst, ◌∙◌}
-use Rattle.std.specs.Prelude.{ℤ, pos, slice_set}
-use Rattle.std.proofs.lemmas.List.{drop_more, drop_all, take_more, take_more_set}
+use Rattle.std.proofs.Common.{◌≡◌, ◌≤◌, ◌<◌, ℕ, suc, zero, ◌+◌, arith, List, [], ◌∷◌, length, get_or, set, Bool, true, false, ◌&&◌, ◌||◌, if◌then◌else◌, refl, sym, ap, ap₂, subst, ◌∙◌}
+use Rattle.std.specs.Prelude.{ℤ, pos, nat_le, nat_lt}
 use Rattle.bs_semantics.specs.Value.{Cells}
 use Rattle.bs_semantics.specs.Run.{mix}
 
-module _ (w : ℕ → Bool) (xs : Cells) where
-  -- the cells from a place on are still to be mixed
-  abbrev pub MixedFrom : ℕ → Cells → Cells → Type 0
-  MixedFrom i now whole = take i now ++ mix w i (drop i xs) (drop i now) ≡ whole
+-- no cell is written
+pub mix_none : (i : ℕ) (xs ys : Cells) → mix (λ j. false) i xs ys ≡ ys
+mix_none i [] ys = refl
+mix_none i (x ∷ xs) [] = refl
+mix_none i (x ∷ xs) (y ∷ ys) = ap (λ zs. y ∷ zs) (mix_none (i + 1) xs ys)
 
-  parted : (i : ℕ) (now : Cells) → i < length xs → i < length now →
-      take i now ++ mix w i (drop i xs) (drop i now) ≡ (take i now ++ (if w i then get_or xs i (pos 0) else get_or now i (pos 0)) ∷ []) ++ mix w (i + 1) (drop (i + 1) xs) (drop (i + 1) now)
-  parted i now l m =
-      ap₂ (λ us vs. take i now ++ mix w i us vs) (drop_more xs i (pos 0) l) (drop_more now i (pos 0) m)
-      ∙ sym (append_assoc (take i now) ((if w i then get_or xs i (pos 0) else get_or now i (pos 0)) ∷ []) (mix w (i + 1) (drop (i + 1) xs) (drop (i + 1) now)))
+either : (a b : Bool) (x y : ℤ) → (if a || b then x else y) ≡ (if b then x else (if a then x else y))
+either true true x y = refl
+either true false x y = refl
+either false true x y = refl
+either false false x y = refl
 
-  -- the cell stays
-  pub mixed_skip : (i : ℕ) (now whole : Cells) → i < length xs → i < length now → w i ≡ false → MixedFrom i now whole → MixedFrom (i + 1) now whole
-  mixed_skip i now whole l m e h =
-      ap (λ zs. zs ++ mix w (i + 1) (drop (i + 1) xs) (drop (i + 1) now)) (take_more now i (pos 0) m ∙ ap (λ b. take i now ++ (if b then get_or xs i (pos 0) else get_or now i (pos 0)) ∷ []) (sym e))
-      ∙ (sym (parted i now l m) ∙ h)
+-- what one of two writes is taken for the first, and then for the second
+pub mix_or : (a b : ℕ → Bool) (i : ℕ) (xs ys : Cells) → mix (λ j. a j || b j) i xs ys ≡ mix b i xs (mix a i xs ys)
+mix_or a b i [] ys = refl
+mix_or a b i (x ∷ xs) [] = refl
+mix_or a b i (x ∷ xs) (y ∷ ys) = ap₂ (λ z zs. z ∷ zs) (either (a i) (b i) x y) (mix_or a b (i + 1) xs ys)
 
-  -- the cell is taken
-  pub mixed_take : (i : ℕ) (now whole : Cells) → i < length xs → i < length now → w i ≡ true → MixedFrom i now whole → MixedFrom (i + 1) (set now i (get_or xs i (pos 0))) whole
-  mixed_take i now whole l m e h =
-      ap₂ (λ zs ys. zs ++ mix w (i + 1) (drop (i + 1) xs) ys) (take_more_set now i (get_or xs i (pos 0)) m ∙ ap (λ b. take i now ++ (if b then get_or xs i (pos 0) else get_or now i (pos 0)) ∷ []) (sym e)) (let l : i < i + 1 = omega arith in drop-set-lt (i + 1) now i (get_or xs i (pos 0)) l)
-      ∙ (sym (parted i now l m) ∙ h)
+pub mix_length : (w : ℕ → Bool) (i : ℕ) (xs ys : Cells) → length (mix w i xs ys) ≡ length ys
+mix_length w i [] ys = refl
+mix_length w i (x ∷ xs) [] = refl
+mix_length w i (x ∷ xs) (y ∷ ys) = ap suc (mix_length w (i + 1) xs ys)
 
-  pub mixed_end : (i : ℕ) (now whole : Cells) → length xs ≤ i → length now ≤ i → MixedFrom i now whole → now ≡ whole
-  mixed_end i now whole l m h =
-      sym (ap₂ (λ zs ys. zs ++ mix w i (drop i xs) ys) (take_all i now m) (drop_all i now m) ∙ (ap (λ us. now ++ mix w i us []) (drop_all i xs l) ∙ append-nil now)) ∙ h
+-- two that write the same cells from a place on
+pub mix_same : (a b : ℕ → Bool) (i : ℕ) (xs ys : Cells) → ((j : ℕ) → i ≤ j → a j ≡ b j) → mix a i xs ys ≡ mix b i xs ys
+mix_same a b i [] ys h = refl
+mix_same a b i (x ∷ xs) [] h = refl
+mix_same a b i (x ∷ xs) (y ∷ ys) h =
+    ap₂ (λ z zs. z ∷ zs) (ap (λ c. if c then x else y) (h i (omega arith))) (mix_same a b (i + 1) xs ys (λ j l. h j (omega arith)))
 
-  -- the cell is taken or stays
-  pub mixed_step : (i : ℕ) (now next whole : Cells) → i < length xs → i < length now → (b : Bool) → b ≡ w i → next ≡ (if b then set now i (get_or xs i (pos 0)) else now) → MixedFrom i now whole → MixedFrom (i + 1) next whole
-  mixed_step i now next whole l m true e q h = subst (λ zs. MixedFrom (i + 1) zs whole) (sym q) (mixed_take i now whole l m (sym e) h)
-  mixed_step i now next whole l m false e q h = subst (λ zs. MixedFrom (i + 1) zs whole) (sym q) (mixed_skip i now whole l m (sym e) h)
+-- one cell more is taken
+pub mix_more : (a b : ℕ → Bool) (i k : ℕ) (xs ys : Cells) → k < length xs → k < length ys → b (i + k) ≡ true → ((j : ℕ) → (j ≡ i + k → ⊥) → a j ≡ b j) →
+    set (mix a i xs ys) k (get_or xs k (pos 0)) ≡ mix b i xs ys
+mix_more a b i k [] ys l m e h = absurd (omega arith)
+mix_more a b i k (x ∷ xs) [] l m e h = absurd (omega arith)
+mix_more a b i zero (x ∷ xs) (y ∷ ys) l m e h =
+    let here : b i ≡ true = subst (λ n. b n ≡ true) (omega arith) e in
+    ap₂ (λ z zs. z ∷ zs) (ap (λ c. if c then x else y) (sym here)) (mix_same a b (i + 1) xs ys (λ j l. h j (λ q. omega arith)))
+mix_more a b i (suc k) (x ∷ xs) (y ∷ ys) l m e h =
+    let there : b (i + 1 + k) ≡ true = subst (λ n. b n ≡ true) (omega arith) e in
+    ap₂ (λ z zs. z ∷ zs) (ap (λ c. if c then x else y) (h i (λ q. omega arith))) (mix_more a b (i + 1) k xs ys (omega arith) (omega arith) there (λ j n. h j (λ q. n (omega arith))))

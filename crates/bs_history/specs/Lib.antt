@@ -7,3 +7,4 @@ pub mod Control
 pub mod Waiting
 pub mod Joined
 pub mod History
+pub mod Taken

@@ -1,163 +1,172 @@
-// Which cells a statement writes.
-ghost use Rattle.std.specs.Prelude.{◌≡◌, ◌<◌, Bool, IsTrue, get_or, if◌then◌else◌, length, map, pos, slice_set};
+// What is taken from a part of an overlap: the cells of each variable that the part writes.
+ghost use Rattle.std.specs.Prelude.{◌≡◌, ◌≤◌, ◌<◌, ◌+◌, IsTrue, get_or, length, map, pos, slice_set};
 ghost use Rattle.bs_check.specs.Known.{all_true, are_known, is_array, is_known_act, is_scalar};
 ghost use Rattle.bs_semantics.specs.Acts.{act_writes, any_writes};
-ghost use Rattle.bs_semantics.specs.Layout.{owns};
-ghost use Rattle.bs_semantics.specs.Run.{any_part, mix, params_own, waits_own};
+ghost use Rattle.bs_semantics.specs.Layout.{all_cells, owns};
+ghost use Rattle.bs_semantics.specs.Run.{any_part, params_own, waits_own};
 ghost use Rattle.bs_block.specs.Env.{MadeFor};
 ghost use Rattle.bs_check.specs.Fits.{are_fit, are_waits_fit, is_fit};
 ghost use Rattle.bs_history.specs.Ground.{means, program_of};
+ghost use Rattle.bs_history.specs.Taken.{Takes, between};
 
+use crate::control::scalar_cell;
 use crate::ground::Ground;
 use bs_block::Env;
 use bs_check::{Accepted, Kind};
 use bs_tree::{Act, NameId, Stmt, Wait};
 
-// Takes the cells that a part writes from that part.
+// Takes the cells that a part writes from that part. A variable that is written at more than one place
+// is taken at each of them.
+#[cycle(take)]
 pub(crate) fn take_written(ground: &Ground, stmt: &Stmt, part: &Env, env: &mut Env)
     requires fits { IsTrue (is_fit (program_of ground.now) stmt.now) }
     requires part { MadeFor (program_of ground.now) part.now }
     requires made { MadeFor (program_of ground.now) env.old }
-    ensures taken { env.new ≡ record env.old { cells = mix (means ground.now stmt.now).writes 0 part.now.cells env.old.cells } }
+    ensures taken { Takes (means ground.now stmt.now).writes part.now env.old env.new }
     ensures made { MadeFor (program_of ground.now) env.new }
 {
-    for cell in 0..ground.accepted.cells() {
-        take_cell(writes(ground, stmt, cell), cell, part, env);
-    }
-}
-
-// Takes one cell from a part, if the part writes it.
-fn take_cell(written: bool, cell: u32, part: &Env, env: &mut Env)
-    requires part { cell < length part.now.cells }
-    requires cell { cell < length env.old.cells }
-    ensures cells { env.new.cells ≡ (if written then slice_set env.old.cells cell (get_or part.now.cells cell (pos 0)) else env.old.cells) }
-    ensures this { env.new.this ≡ env.old.this }
-    ensures length { length env.new.cells ≡ length env.old.cells }
-{
-    if written {
-        env.set(cell, part.get(cell));
-    }
-}
-
-// Whether a statement writes a cell.
-#[cycle(writes)]
-fn writes(ground: &Ground, stmt: &Stmt, cell: u32) -> bool
-    requires { IsTrue (is_fit (program_of ground.now) stmt.now) }
-    ensures { result ≡ (means ground.now stmt.now).writes cell }
-{
     match stmt {
-        Stmt::Serial(acts) => any_act_writes(ground.accepted, acts.as_slice(), cell),
+        Stmt::Serial(acts) => take_acts(ground.accepted, acts.as_slice(), part, env),
         Stmt::When(waits, body) => {
-            any_wait_writes(ground.accepted, waits.as_slice(), cell)
-                || any_stmt_writes(ground, body.as_slice(), cell)
+            take_waits(ground.accepted, waits.as_slice(), part, env);
+            take_list(ground, body.as_slice(), part, env);
         }
-        Stmt::Overlap(body) => any_stmt_writes(ground, body.as_slice(), cell),
+        Stmt::Overlap(body) => take_list(ground, body.as_slice(), part, env),
         Stmt::For(first, _, _, next, _, body) => {
-            owns_scalar(ground.accepted, *first, cell)
-                || owns_scalar(ground.accepted, *next, cell)
-                || any_stmt_writes(ground, body.as_slice(), cell)
+            take_scalar(ground.accepted, *first, part, env);
+            take_scalar(ground.accepted, *next, part, env);
+            take_list(ground, body.as_slice(), part, env);
         }
-        Stmt::While(_, body) => any_stmt_writes(ground, body.as_slice(), cell),
+        Stmt::While(_, body) => take_list(ground, body.as_slice(), part, env),
         Stmt::If(_, body, other) => {
-            any_stmt_writes(ground, body.as_slice(), cell)
-                || match other {
-                    None => false,
-                    Some(other) => any_stmt_writes(ground, other.as_slice(), cell),
-                }
+            take_list(ground, body.as_slice(), part, env);
+            if let Some(other) = other {
+                take_list(ground, other.as_slice(), part, env);
+            }
         }
-        Stmt::Seq(body) => any_stmt_writes(ground, body.as_slice(), cell),
+        Stmt::Seq(body) => take_list(ground, body.as_slice(), part, env),
     }
 }
 
-#[cycle(writes)]
-fn any_stmt_writes(ground: &Ground, body: &[Stmt], cell: u32) -> bool
-    requires { IsTrue (are_fit (program_of ground.now) body.now) }
-    ensures { result ≡ any_part (map (means ground.now) body.now) cell }
+#[cycle(take)]
+fn take_list(ground: &Ground, body: &[Stmt], part: &Env, env: &mut Env)
+    requires fits { IsTrue (are_fit (program_of ground.now) body.now) }
+    requires part { MadeFor (program_of ground.now) part.now }
+    requires made { MadeFor (program_of ground.now) env.old }
+    ensures taken { Takes (any_part (map (means ground.now) body.now)) part.now env.old env.new }
+    ensures made { MadeFor (program_of ground.now) env.new }
 {
     for stmt in body {
-        if writes(ground, stmt, cell) {
-            return true;
-        }
+        take_written(ground, stmt, part, env);
     }
-    false
 }
 
-fn any_wait_writes(accepted: &Accepted, waits: &[Wait], cell: u32) -> bool
-    requires { IsTrue (are_waits_fit accepted.now.program waits.now) }
-    ensures { result ≡ waits_own accepted.now.program waits.now cell }
+// Takes the parameters of waits.
+fn take_waits(accepted: &Accepted, waits: &[Wait], part: &Env, env: &mut Env)
+    requires fits { IsTrue (are_waits_fit accepted.now.program waits.now) }
+    requires part { MadeFor accepted.now.program part.now }
+    requires made { MadeFor accepted.now.program env.old }
+    ensures taken { Takes (waits_own accepted.now.program waits.now) part.now env.old env.new }
+    ensures made { MadeFor accepted.now.program env.new }
 {
     for wait in waits {
-        if any_owns(accepted, wait.params.as_slice(), cell) {
-            return true;
-        }
+        take_scalars(accepted, wait.params.as_slice(), part, env);
     }
-    false
 }
 
-fn any_owns(accepted: &Accepted, names: &[NameId], cell: u32) -> bool
-    requires { IsTrue (all_true (map (is_scalar accepted.now.program) names.now)) }
-    ensures { result ≡ params_own accepted.now.program names.now cell }
+fn take_scalars(accepted: &Accepted, names: &[NameId], part: &Env, env: &mut Env)
+    requires fits { IsTrue (all_true (map (is_scalar accepted.now.program) names.now)) }
+    requires part { MadeFor accepted.now.program part.now }
+    requires made { MadeFor accepted.now.program env.old }
+    ensures taken { Takes (params_own accepted.now.program names.now) part.now env.old env.new }
+    ensures made { MadeFor accepted.now.program env.new }
 {
     for name in names {
-        if owns_scalar(accepted, *name, cell) {
-            return true;
-        }
+        take_scalar(accepted, *name, part, env);
     }
-    false
 }
 
+// Takes what acts assign to.
 #[cycle(acts)]
-fn any_act_writes(accepted: &Accepted, acts: &[Act], cell: u32) -> bool
-    requires { IsTrue (are_known accepted.now.program acts.now) }
-    ensures { result ≡ any_writes (map (act_writes accepted.now.program) acts.now) cell }
+fn take_acts(accepted: &Accepted, acts: &[Act], part: &Env, env: &mut Env)
+    requires known { IsTrue (are_known accepted.now.program acts.now) }
+    requires part { MadeFor accepted.now.program part.now }
+    requires made { MadeFor accepted.now.program env.old }
+    ensures taken { Takes (any_writes (map (act_writes accepted.now.program) acts.now)) part.now env.old env.new }
+    ensures made { MadeFor accepted.now.program env.new }
 {
     for act in acts {
-        if one_act_writes(accepted, act, cell) {
-            return true;
-        }
+        take_act(accepted, act, part, env);
     }
-    false
 }
 
 #[cycle(acts)]
-fn one_act_writes(accepted: &Accepted, act: &Act, cell: u32) -> bool
-    requires { IsTrue (is_known_act accepted.now.program act.now) }
-    ensures { result ≡ act_writes accepted.now.program act.now cell }
+fn take_act(accepted: &Accepted, act: &Act, part: &Env, env: &mut Env)
+    requires known { IsTrue (is_known_act accepted.now.program act.now) }
+    requires part { MadeFor accepted.now.program part.now }
+    requires made { MadeFor accepted.now.program env.old }
+    ensures taken { Takes (act_writes accepted.now.program act.now) part.now env.old env.new }
+    ensures made { MadeFor accepted.now.program env.new }
 {
     match act {
-        Act::Set(name, _) => owns_scalar(accepted, *name, cell),
-        Act::SetAt(name, _, _) => owns_array(accepted, *name, cell),
-        Act::Send(_, _, _, _, _) => false,
-        Act::Work(_) => false,
-        Act::Emit(_) => false,
+        Act::Set(name, _) => take_scalar(accepted, *name, part, env),
+        Act::SetAt(name, _, _) => take_array(accepted, *name, part, env),
+        Act::Send(_, _, _, _, _) => {}
+        Act::Work(_) => {}
+        Act::Emit(_) => {}
         Act::If(_, body, other) => {
-            any_act_writes(accepted, body.as_slice(), cell)
-                || match other {
-                    None => false,
-                    Some(other) => any_act_writes(accepted, other.as_slice(), cell),
-                }
+            take_acts(accepted, body.as_slice(), part, env);
+            if let Some(other) = other {
+                take_acts(accepted, other.as_slice(), part, env);
+            }
         }
-        Act::Repeat(_, body) => any_act_writes(accepted, body.as_slice(), cell),
+        Act::Repeat(_, body) => take_acts(accepted, body.as_slice(), part, env),
     }
 }
 
-fn owns_scalar(accepted: &Accepted, name: NameId, cell: u32) -> bool
-    requires { IsTrue (is_scalar accepted.now.program name) }
-    ensures { result ≡ owns accepted.now.program name cell }
+fn take_scalar(accepted: &Accepted, name: NameId, part: &Env, env: &mut Env)
+    requires scalar { IsTrue (is_scalar accepted.now.program name) }
+    requires part { MadeFor accepted.now.program part.now }
+    requires made { MadeFor accepted.now.program env.old }
+    ensures taken { Takes (owns accepted.now.program name) part.now env.old env.new }
+    ensures made { MadeFor accepted.now.program env.new }
+{
+    let cell = scalar_cell(accepted, name);
+    take_cells(accepted, cell, 1, part, env);
+}
+
+fn take_array(accepted: &Accepted, name: NameId, part: &Env, env: &mut Env)
+    requires array { IsTrue (is_array accepted.now.program name) }
+    requires part { MadeFor accepted.now.program part.now }
+    requires made { MadeFor accepted.now.program env.old }
+    ensures taken { Takes (owns accepted.now.program name) part.now env.old env.new }
+    ensures made { MadeFor accepted.now.program env.new }
 {
     match accepted.kind(name) {
-        Kind::Scalar(from) => from <= cell && u64::from(cell) < u64::from(from) + 1,
+        Kind::Array(from, cells) => take_cells(accepted, from, cells, part, env),
         _ => unreachable!(),
     }
 }
 
-fn owns_array(accepted: &Accepted, name: NameId, cell: u32) -> bool
-    requires { IsTrue (is_array accepted.now.program name) }
-    ensures { result ≡ owns accepted.now.program name cell }
+// Takes so many cells from one on.
+fn take_cells(accepted: &Accepted, from: u32, cells: u32, part: &Env, env: &mut Env)
+    requires within { from + cells ≤ all_cells accepted.now.program.vars }
+    requires part { MadeFor accepted.now.program part.now }
+    requires made { MadeFor accepted.now.program env.old }
+    ensures taken { Takes (between from (from + cells)) part.now env.old env.new }
+    ensures made { MadeFor accepted.now.program env.new }
 {
-    match accepted.kind(name) {
-        Kind::Array(from, cells) => from <= cell
-            && u64::from(cell) < u64::from(from) + u64::from(cells),
-        _ => unreachable!(),
+    let all = accepted.cells();
+    prove!(cells <= all - from);
+    for cell in from..from + cells {
+        take_cell(cell, part, env);
     }
+}
+
+fn take_cell(cell: u32, part: &Env, env: &mut Env)
+    requires part { cell < length part.now.cells }
+    requires cell { cell < length env.old.cells }
+    ensures { env.new ≡ record env.old { cells = slice_set env.old.cells cell (get_or part.now.cells cell (pos 0)) } }
+{
+    env.set(cell, part.get(cell));
 }
