@@ -101,7 +101,7 @@ walked_then p n m xs ys (Err fault) h g = walked_as p n m (xs ++ ys) ys fault (k
 
 -- ---- as many as are counted
 
-abbrev IsCounted : Stmt → Type 0
+abbrev pub IsCounted : Stmt → Type 0
 IsCounted x = length (listed x).inside + 1 ≡ statements_of x
 
 abbrev Counted : Type 0
@@ -138,7 +138,7 @@ layer_counted (Stmt-F.Seq body) = let all = counted_list body in omega (arith, a
 abbrev CountedSo : Listed → ℕ → Type 0
 CountedSo l n = length l.inside + 1 ≡ n
 
-counted : (x : Stmt) → IsCounted x
+pub counted : (x : Stmt) → IsCounted x
 counted = ind-Stmt IsCounted (λ x y is.
     subst₂ CountedSo (sym (fold-roll-Stmt Listed listed_step x)) (sym (fold-roll-Stmt ℕ statements_step x))
     (subst (λ z. length (inside_step (map-Stmt Stmt Listed listed z)) + 1 ≡ statements_step (map-Stmt Stmt ℕ statements_of z)) is (layer_counted y)))

@@ -9,3 +9,5 @@ pub mod PartByPart
 pub mod Everything
 pub mod Verdict
 pub mod Fitness
+pub mod Ends
+pub mod Standing

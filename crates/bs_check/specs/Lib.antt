@@ -9,4 +9,5 @@ pub mod Refusal
 pub mod Table
 pub mod Touches
 pub mod Walked
+pub mod Numbers
 pub mod Accepted

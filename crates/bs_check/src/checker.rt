@@ -7,6 +7,7 @@ use crate::accepted::{Accepted, accept};
 use crate::declarations::{cells_of, declares_twice, keeps_limits, kinds_of};
 use crate::fault::{CheckFault, Rule};
 use crate::names::Names;
+use crate::numbers::ends_of;
 use crate::statements::check_body;
 use crate::touches::Touches;
 use bs_tree::Program;
@@ -25,7 +26,8 @@ pub fn check(alloc: Global, program: Program) -> Result<Accepted, CheckFault>
     let names = declared(alloc, program)?;
     let mut touches = Touches::new(alloc, names.program.names.as_slice().len())?;
     check_body(&names, &mut touches, &names.program.body, 1)?;
-    Ok(accept(names))
+    let ends = ends_of(alloc, &names.program)?;
+    Ok(accept(names, ends))
 }
 
 // A program whose declarations keep all rules, with what its names are declared as.

@@ -12,6 +12,7 @@ mod kind;
 mod known;
 pub mod laws;
 mod names;
+mod numbers;
 mod statements;
 mod touches;
 mod uses;

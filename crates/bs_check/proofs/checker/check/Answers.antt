@@ -21,8 +21,13 @@ returns-in_err-check_body-clause-err c =
     let same = subst (λ (p : Program). IsRefused p c.in_err-check_body.field-0.0) c.in_ok-names.ensures.program refused in
     rw (given.1, given.2) (λ other. same)
 
-pub accept-requires : goal.accept-requires
-accept-requires c =
+pub ends_of-requires : goal.ends_of-requires
+ends_of-requires c =
+    let names = c.in_ok-names.names in
+    omega (arith, names.is_whole.statements, every_counted names.program.body)
+
+pub accept-requires-clause-kept : goal.accept-requires-clause-kept
+accept-requires-clause-kept c =
     let names = c.in_ok-names.names in
     let ok : declarations_rule names.program ≡ None = rw c.in_ok-names.ensures.program c.in_ok-names.ensures.ok in
     kept_all names.program c.in_ok-check_body.field-0 ok c.in_ok-check_body.ensures.walked
