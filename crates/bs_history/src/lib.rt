@@ -9,7 +9,6 @@ mod control;
 mod fault;
 mod ground;
 mod joined;
-mod numbers;
 mod ordered;
 mod serial;
 mod statements;

@@ -1,6 +1,7 @@
 // What statements do.
-ghost use Rattle.std.specs.Prelude.{◌≡◌, ◌≤◌, ◌+◌, ◌++◌, ◌∷◌, [], suc, IsTrue, map};
+ghost use Rattle.std.specs.Prelude.{◌≡◌, ◌≤◌, ◌<◌, ◌+◌, ◌++◌, ◌∷◌, [], suc, IsTrue, map};
 ghost use Rattle.bs_check.specs.Known.{is_known};
+ghost use Rattle.bs_check.specs.Numbers.{StandsAt};
 ghost use Rattle.bs_tree.specs.Count.{statements_in, statements_of};
 ghost use Rattle.bs_semantics.specs.Run.{ask, assign, in_turn, keys_of, overlap, took, turns};
 ghost use Rattle.bs_semantics.specs.Layout.{place_of};
@@ -13,11 +14,10 @@ use crate::control::{Step, assign, take_step, test};
 use crate::fault::HistoryFault;
 use crate::ground::{Ground, State};
 use crate::joined::join;
-use crate::numbers::{number_after, number_after_all};
 use crate::serial::run_serial;
 use crate::trail::{Trail, pop_place, push_place};
 use crate::waiting::wait;
-use bs_tree::{Expr, NameId, Stmt, Wait};
+use bs_tree::{Expr, List, NameId, Stmt, Wait};
 
 // One statement, with its number. It answers whether it ended.
 #[cycle(run)]
@@ -29,6 +29,7 @@ pub(crate) fn run_stmt(
     state: &mut State,
 ) -> Result<bool, HistoryFault>
     requires fits { IsTrue (is_fit (program_of ground.now) stmt.now) }
+    requires stands { StandsAt (program_of ground.now) number (stmt.now ∷ []) }
     requires numbers { number + statements_of stmt.now ≤ 10001 }
     requires ready { IsReady ground.now trail.old state.old }
     ensures { Runs ground.now ((means ground.now stmt.now).does (mail_of ground.now) number trail.old.path.items (state_of state.old)) trail.old trail.new state.new result }
@@ -37,16 +38,22 @@ pub(crate) fn run_stmt(
         Stmt::Serial(acts) => run_serial(ground, acts, number, trail, state),
         Stmt::When(waits, body) => run_when(
             ground,
-            body.as_slice(),
+            standing(ground, body, number + 1),
             waits.as_slice(),
             number,
             trail,
             state,
         ),
-        Stmt::Overlap(body) => run_overlap(ground, body.as_slice(), number + 1, trail, state),
+        Stmt::Overlap(body) => run_overlap(
+            ground,
+            standing(ground, body, number + 1),
+            number + 1,
+            trail,
+            state,
+        ),
         Stmt::For(name, first, condition, stepped, next, body) => run_for(
             ground,
-            body.as_slice(),
+            standing(ground, body, number + 1),
             *name,
             first,
             condition,
@@ -58,7 +65,7 @@ pub(crate) fn run_stmt(
         ),
         Stmt::While(condition, body) => run_turns(
             ground,
-            body.as_slice(),
+            standing(ground, body, number + 1),
             condition,
             None,
             number,
@@ -67,16 +74,36 @@ pub(crate) fn run_stmt(
         ),
         Stmt::If(condition, body, other) => match test(ground, condition, number, trail, state)? {
             None => Ok(false),
-            Some(true) => run_branch(ground, body.as_slice(), 0, number + 1, trail, state),
+            Some(true) => run_branch(
+                ground,
+                standing(ground, body, number + 1),
+                0,
+                number + 1,
+                trail,
+                state,
+            ),
             Some(false) => match other {
                 None => Ok(true),
                 Some(other) => {
-                    let number = number_after_all(body, number + 1);
-                    run_branch(ground, other.as_slice(), 1, number, trail, state)
+                    let number = number_behind(ground, body, number + 1);
+                    run_branch(
+                        ground,
+                        standing(ground, other, number),
+                        1,
+                        number,
+                        trail,
+                        state,
+                    )
                 }
             },
         },
-        Stmt::Seq(body) => run_list(ground, body.as_slice(), number + 1, trail, state),
+        Stmt::Seq(body) => run_list(
+            ground,
+            standing(ground, body, number + 1),
+            number + 1,
+            trail,
+            state,
+        ),
     }
 }
 
@@ -97,6 +124,7 @@ fn run_for(
 ) -> Result<bool, HistoryFault>
     requires heads { IsTrue (is_for_fit (program_of ground.now) name first.now condition.now stepped next.now) }
     requires fits { IsTrue (are_fit (program_of ground.now) body.now) }
+    requires stands { StandsAt (program_of ground.now) (number + 1) body.now }
     requires numbers { number + 1 + statements_in body.now ≤ 10001 }
     requires ready { IsReady ground.now trail.old state.old }
     ensures { Runs ground.now (assign (λ s. value_of (program_of ground.now) ground.now.this first.now s.cells) (place_of (program_of ground.now) name).from number trail.old.path.items (turns (suc ground.now.limit) (λ s. value_of (program_of ground.now) ground.now.this condition.now s.cells) (assign (λ s. value_of (program_of ground.now) ground.now.this next.now s.cells) (place_of (program_of ground.now) stepped).from) (map (means ground.now) body.now) 0 (mail_of ground.now) number trail.old.path.items) (state_of state.old)) trail.old trail.new state.new result }
@@ -124,6 +152,7 @@ fn run_when(
 ) -> Result<bool, HistoryFault>
     requires fits { IsTrue (are_fit (program_of ground.now) body.now) }
     requires waits { IsTrue (are_waits_fit (program_of ground.now) waits.now) }
+    requires stands { StandsAt (program_of ground.now) (number + 1) body.now }
     requires numbers { number + 1 + statements_in body.now ≤ 10001 }
     requires ready { IsReady ground.now trail.old state.old }
     ensures { Runs ground.now (with number trail.old.path.items (keys_of (program_of ground.now) ground.now.this waits.now state.old.env.cells) (λ ks. ask (mail_of ground.now) number trail.old.path.items ks (λ ms. in_turn (map (means ground.now) body.now) 0 (mail_of ground.now) (number + 1) trail.old.path.items (took (program_of ground.now) waits.now (state_of state.old) ms)))) trail.old trail.new state.new result }
@@ -146,6 +175,7 @@ fn run_at(
     state: &mut State,
 ) -> Result<bool, HistoryFault>
     requires fits { IsTrue (is_fit (program_of ground.now) stmt.now) }
+    requires stands { StandsAt (program_of ground.now) number (stmt.now ∷ []) }
     requires numbers { number + statements_of stmt.now ≤ 10001 }
     requires ready { IsReady ground.now trail.old state.old }
     ensures { Runs ground.now ((means ground.now stmt.now).does (mail_of ground.now) number (trail.old.path.items ++ place ∷ []) (state_of state.old)) trail.old trail.new state.new result }
@@ -167,6 +197,7 @@ fn run_branch(
     state: &mut State,
 ) -> Result<bool, HistoryFault>
     requires fits { IsTrue (are_fit (program_of ground.now) body.now) }
+    requires stands { StandsAt (program_of ground.now) number body.now }
     requires numbers { number + statements_in body.now ≤ 10001 }
     requires ready { IsReady ground.now trail.old state.old }
     ensures { Runs ground.now (in_turn (map (means ground.now) body.now) 0 (mail_of ground.now) number (trail.old.path.items ++ place ∷ []) (state_of state.old)) trail.old trail.new state.new result }
@@ -187,6 +218,7 @@ pub(crate) fn run_list(
     state: &mut State,
 ) -> Result<bool, HistoryFault>
     requires fits { IsTrue (are_fit (program_of ground.now) body.now) }
+    requires stands { StandsAt (program_of ground.now) number body.now }
     requires numbers { number + statements_in body.now ≤ 10001 }
     requires ready { IsReady ground.now trail.old state.old }
     ensures { Runs ground.now (in_turn (map (means ground.now) body.now) 0 (mail_of ground.now) number trail.old.path.items (state_of state.old)) trail.old trail.new state.new result }
@@ -194,11 +226,12 @@ pub(crate) fn run_list(
     let mut place: u32 = 0;
     let mut next = number;
     for stmt in body {
+        let behind = number_after(ground, stmt, next);
         let ended = run_at(ground, stmt, place, next, trail, state)?;
         if !ended {
             return Ok(false);
         }
-        next = number_after(stmt, next);
+        next = behind;
         place += 1;
     }
     Ok(true)
@@ -214,6 +247,7 @@ fn run_overlap(
     state: &mut State,
 ) -> Result<bool, HistoryFault>
     requires fits { IsTrue (are_fit (program_of ground.now) body.now) }
+    requires stands { StandsAt (program_of ground.now) number body.now }
     requires numbers { number + statements_in body.now ≤ 10001 }
     requires ready { IsReady ground.now trail.old state.old }
     ensures { Runs ground.now (overlap (map (means ground.now) body.now) (mail_of ground.now) number trail.old.path.items (state_of state.old)) trail.old trail.new state.new result }
@@ -225,10 +259,11 @@ fn run_overlap(
     let mut place: u32 = 0;
     let mut next = number;
     for stmt in body {
+        let behind = number_after(ground, stmt, next);
         let mut part = state.copy(ground.alloc)?;
         let ended = run_at(ground, stmt, place, next, trail, &mut part)?;
         joined = join(ground, stmt, joined, part, ended)?;
-        next = number_after(stmt, next);
+        next = behind;
         place += 1;
     }
     match joined {
@@ -254,6 +289,7 @@ fn run_turns(
     requires fits { IsTrue (are_fit (program_of ground.now) body.now) }
     requires known { IsTrue (is_known (program_of ground.now) condition.now) }
     requires step { IsTrue (is_step_fit (program_of ground.now) step) }
+    requires stands { StandsAt (program_of ground.now) (number + 1) body.now }
     requires numbers { number + 1 + statements_in body.now ≤ 10001 }
     requires ready { IsReady ground.now trail.old state.old }
     ensures { Runs ground.now (turns (suc ground.now.limit) (λ s. value_of (program_of ground.now) ground.now.this condition.now s.cells) (step_of ground.now step.entry) (map (means ground.now) body.now) 0 (mail_of ground.now) number trail.old.path.items (state_of state.old)) trail.old trail.new state.new result }
@@ -296,4 +332,36 @@ fn last_test(
         Some(true) => Ok(false),
         Some(false) => Ok(true),
     }
+}
+
+// The statements of a list, of which it is known where they stand.
+fn standing<'a>(_ground: &Ground, body: &'a List<Stmt>, _number: u32) -> &'a [Stmt]
+    requires { StandsAt (program_of _ground.now) _number body.now }
+    ensures same { result.now ≡ body.now }
+    ensures stands { StandsAt (program_of _ground.now) _number result.now }
+{
+    body.as_slice()
+}
+
+// The number that comes behind a statement, of which it is known where it stands.
+fn number_after(ground: &Ground, _stmt: &Stmt, number: u32) -> u32
+    requires { StandsAt (program_of ground.now) number (_stmt.now ∷ []) }
+    ensures value { result ≡ number + statements_of _stmt.now }
+    ensures rises { number < result }
+    ensures stands { StandsAt (program_of ground.now) number (_stmt.now ∷ []) }
+{
+    ground.accepted.after(number)
+}
+
+// The number that comes behind the statements of a list, the first of which has this number. It asks for
+// the number behind each of them, and doesn't go inside.
+fn number_behind(ground: &Ground, body: &List<Stmt>, number: u32) -> u32
+    requires { StandsAt (program_of ground.now) number body.now }
+    ensures { result ≡ number + statements_in body.now }
+{
+    let mut next = number;
+    for _stmt in body.as_slice() {
+        next = ground.accepted.after(next);
+    }
+    next
 }

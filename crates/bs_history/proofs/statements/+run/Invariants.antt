@@ -1,5 +1,6 @@
 use Rattle.std.proofs.Common.{◌≡◌, ◌≤◌, ◌-◌, ◌+◌, suc, true, drop, map}
 use Rattle.bs_tree.specs.Count.{statements_in}
+use Rattle.bs_check.specs.Numbers.{StandsAt}
 use Rattle.bs_semantics.specs.Value.{value_of}
 use Rattle.bs_semantics.specs.Run.{State as PlainState, in_turn, turns, parts, overlap}
 use Rattle.bs_history.specs.Control.{step_of}
@@ -11,6 +12,7 @@ use Rattle.bs_history.proofs.statements.+run.Given as goal
 abbrev pub invariant-run_list-loop-stmt : goal.invariant-run_list-loop-stmt
 invariant-run_list-loop-stmt l = record {
   fits : are_fit (program_of l.ground) (drop l.stmt-index l.body) ≡ true;
+  stands : StandsAt (program_of l.ground) l.next (drop l.stmt-index l.body);
   numbers : l.next + statements_in (drop l.stmt-index l.body) ≤ 10001;
   places : l.place ≤ l.next;
   left : Left l.ground
@@ -33,6 +35,7 @@ invariant-run_turns-loop-turn l =
 abbrev pub invariant-run_overlap-loop-stmt : goal.invariant-run_overlap-loop-stmt
 invariant-run_overlap-loop-stmt l = record {
   fits : are_fit (program_of l.ground) (drop l.stmt-index l.body) ≡ true;
+  stands : StandsAt (program_of l.ground) l.next (drop l.stmt-index l.body);
   numbers : l.next + statements_in (drop l.stmt-index l.body) ≤ 10001;
   places : l.place ≤ l.next;
   state : l.state ≡ l.fn.state;
