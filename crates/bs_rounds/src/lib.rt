@@ -4,7 +4,13 @@
 #![tactic(auto)]
 
 mod answer;
+mod asking;
+mod copies;
+mod naming;
+mod posting;
 mod rounds;
+mod stop;
+mod taking;
 
 pub use answer::{At, Twice, Verdict};
 pub use bs_history::{HistoryFault, history};
