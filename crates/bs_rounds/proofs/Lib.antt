@@ -4,3 +4,6 @@ pub mod Single
 pub mod Asked
 pub mod Shallow
 pub mod Taken
+pub mod NamingLeast
+pub mod NamingPlaces
+pub mod NamingMarks
