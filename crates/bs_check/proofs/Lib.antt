@@ -8,3 +8,4 @@ pub mod Clashes
 pub mod PartByPart
 pub mod Everything
 pub mod Verdict
+pub mod Fitness

@@ -4,6 +4,7 @@ pub mod Every
 pub mod Interference
 pub mod Declarations
 pub mod Rules
+pub mod Fits
 pub mod Refusal
 pub mod Table
 pub mod Touches

@@ -1,6 +1,6 @@
 // A program that was accepted.
 ghost use Rattle.std.specs.Prelude.{◌≡◌, ◌≤◌, IsSome, None, Some};
-ghost use Rattle.bs_check.specs.Refusal.{refusal};
+ghost use Rattle.bs_check.specs.Refusal.{IsWhole, refusal};
 ghost use Rattle.bs_check.specs.Accepted.{HasKinds};
 ghost use Rattle.bs_check.specs.Kinds.{IsPlaced, kind_of};
 ghost use Rattle.bs_semantics.specs.Layout.{all_cells};
@@ -18,17 +18,23 @@ pub struct Accepted {
     ghost has_kinds: { HasKinds program kinds.items },
     ghost has_cells: { cells ≡ all_cells program.vars },
     ghost is_kept: { refusal program ≡ None },
-    ghost has_chares: { program.chares ≤ 65536 },
+    ghost is_whole: { IsWhole program },
+    ghost has_chares: { (1 ≤ program.chares) × (program.chares ≤ 65536) },
 }
 
 impl Accepted {
-    ghost use Rattle.std.specs.Prelude.{◌≡◌, IsSome, Some};
+    ghost use Rattle.std.specs.Prelude.{◌≡◌, ◌≤◌, IsSome, None, Some};
     ghost use Rattle.bs_check.specs.Kinds.{IsPlaced, kind_of};
+    ghost use Rattle.bs_check.specs.Refusal.{IsWhole, refusal};
     ghost use Rattle.bs_semantics.specs.Layout.{all_cells};
 
-    /// The program. It takes no memory.
+    /// The program, which breaks no rule, has at most 10,000 statements and 1 to 65,536 chares. It takes
+    /// no memory.
     pub fn program(&self) -> &Program
-        ensures { result.now ≡ self.now.program }
+        ensures value { result.now ≡ self.now.program }
+        ensures kept { refusal self.now.program ≡ None }
+        ensures whole { IsWhole self.now.program }
+        ensures chares { (1 ≤ self.now.program.chares) × (self.now.program.chares ≤ 65536) }
     {
         &self.program
     }

@@ -10,6 +10,7 @@ mod fault;
 mod interference;
 mod kind;
 mod known;
+pub mod laws;
 mod names;
 mod statements;
 mod touches;

@@ -1,1 +1,9 @@
+pub mod Ordered
+pub mod Causes
+pub mod Trail
+pub mod Ground
+pub mod Serial
+pub mod Control
+pub mod Waiting
+pub mod Joined
 pub mod History

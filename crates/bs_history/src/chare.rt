@@ -4,8 +4,14 @@ ghost use Rattle.bs_match.specs.Mail.{lookup};
 ghost use Rattle.bs_semantics.specs.Run.{history as history_of};
 ghost use Rattle.bs_history.specs.History.{IsHistory};
 
+use crate::causes::Causes;
 use crate::fault::HistoryFault;
+use crate::ground::{Ground, State};
+use crate::statements::run_list;
+use crate::trail::Trail;
+use bs_block::Env;
 use bs_check::Accepted;
+use bs_check::laws::accepted_programs;
 use bs_log::History;
 use bs_match::Mail;
 use std::alloc::Global;
@@ -15,16 +21,45 @@ use std::alloc::Global;
 ///
 /// `Long` comes exactly where the size of the history is above the limit, but for want of memory.
 pub fn history(
-    _alloc: Global,
-    _accepted: &Accepted,
-    _chare: u32,
-    _mail: &Mail,
-    _limit: u64,
+    alloc: Global,
+    accepted: &Accepted,
+    chare: u32,
+    mail: &Mail,
+    limit: u64,
 ) -> Result<History, HistoryFault>
-    requires chare { _chare < _accepted.now.program.chares }
-    requires shallow { All (λ m. m.origin.depth ≤ 262144) _mail.now }
-    requires limit { _limit ≤ 262144 }
-    ensures { IsHistory _limit (history_of _accepted.now.program _limit _chare (lookup _mail.now)) result }
+    requires chare { chare < accepted.now.program.chares }
+    requires shallow { All (λ m. m.origin.depth ≤ 262144) mail.now }
+    requires limit { limit ≤ 262144 }
+    ensures { IsHistory limit (history_of accepted.now.program limit chare (lookup mail.now)) result }
 {
-    Err(HistoryFault::Memory)
+    let ground = Ground {
+        alloc,
+        accepted,
+        mail,
+        this: chare,
+        limit,
+    };
+    let mut trail = Trail::new(alloc);
+    let mut state = State {
+        env: Env::new(alloc, accepted, chare)?,
+        causes: Causes::new(alloc),
+    };
+    // Its names are declared as what they are used for.
+    accepted_programs();
+    let body = accepted.program().body.as_slice();
+    let ended = run_list(&ground, body, 1, &mut trail, &mut state)?;
+    let Trail {
+        blocks,
+        asked,
+        traps,
+        waits,
+        ..
+    } = trail;
+    Ok(History {
+        blocks,
+        asked,
+        waits,
+        traps,
+        ended,
+    })
 }

@@ -1,0 +1,12 @@
+pub mod Places
+pub mod Paths
+pub mod Trails
+pub mod Lefts
+pub mod Meanings
+pub mod Turns
+pub mod Branches
+pub mod Waits
+pub mod Asked
+pub mod Mixes
+pub mod Joins
+pub mod Histories

@@ -1,0 +1,190 @@
+// What a `when` does before its body.
+ghost use Rattle.std.specs.Prelude.{◌≡◌, ◌≤◌, All, IfOk, IsTrue, option_map};
+ghost use Rattle.bs_check.specs.Known.{all_true, is_scalar};
+ghost use Rattle.bs_semantics.specs.Run.{ask, held, keys_of, missing, take_args, take_mail, took, with};
+ghost use Rattle.bs_block.specs.Env.{MadeFor};
+ghost use Rattle.bs_check.specs.Fits.{are_waits_fit};
+ghost use Rattle.bs_history.specs.Ground.{IsReady, Steps, mail_of, program_of, state_of};
+ghost use Rattle.bs_history.specs.Trail.{IsWithin, Writes};
+ghost use Rattle.bs_history.specs.Waiting.{AreHeld, AreKeys, all_keys_asked, all_keys_missing};
+
+use crate::causes::copy_origin;
+use crate::control::scalar_cell;
+use crate::fault::HistoryFault;
+use crate::ground::{Ground, State};
+use crate::trail::Trail;
+use bs_block::{BlockFault, Env, eval};
+use bs_check::{Accepted, Kind};
+use bs_log::{Key, Message};
+use bs_tree::{List, NameId, Wait};
+use std::alloc::{AllocError, Global};
+
+// Asks all keys. Where all messages are there, it takes them; otherwise it waits for the others.
+pub(crate) fn wait(
+    ground: &Ground,
+    waits: &[Wait],
+    number: u32,
+    trail: &mut Trail,
+    state: &mut State,
+) -> Result<bool, HistoryFault>
+    requires fits { IsTrue (are_waits_fit (program_of ground.now) waits.now) }
+    requires ready { IsReady ground.now trail.old state.old }
+    ensures { Steps ground.now (λ next. with number trail.old.path.items (keys_of (program_of ground.now) ground.now.this waits.now state.old.env.cells) (λ ks. ask (mail_of ground.now) number trail.old.path.items ks (λ ms. next (took (program_of ground.now) waits.now (state_of state.old) ms)))) trail.old trail.new state.new result }
+{
+    match keys(ground, waits, &state.env) {
+        Ok(keys) => ask_keys(ground, waits, keys.as_slice(), number, trail, state),
+        Err(BlockFault::Trap(kind)) => {
+            trail.trap(ground.alloc, number, kind, ground.limit)?;
+            Ok(false)
+        }
+        Err(BlockFault::Memory) => Err(HistoryFault::Memory),
+    }
+}
+
+fn ask_keys(
+    ground: &Ground,
+    waits: &[Wait],
+    keys: &[Key],
+    number: u32,
+    trail: &mut Trail,
+    state: &mut State,
+) -> Result<bool, HistoryFault>
+    requires fits { IsTrue (are_waits_fit (program_of ground.now) waits.now) }
+    requires ready { IsReady ground.now trail.old state.old }
+    ensures { Steps ground.now (λ next. ask (mail_of ground.now) number trail.old.path.items keys.now (λ ms. next (took (program_of ground.now) waits.now (state_of state.old) ms))) trail.old trail.new state.new result }
+{
+    write_asked(ground, keys, number, trail)?;
+    match held_messages(ground, keys)? {
+        None => {
+            write_missing(ground, keys, number, trail)?;
+            Ok(false)
+        }
+        Some(messages) => {
+            take_arguments(ground.accepted, waits, messages.as_slice(), &mut state.env);
+            state
+                .causes
+                .add_messages(ground.alloc, messages.into_vec())?;
+            Ok(true)
+        }
+    }
+}
+
+// The keys of the waits, from left to right.
+fn keys(ground: &Ground, waits: &[Wait], env: &Env) -> Result<List<Key>, BlockFault>
+    requires fits { IsTrue (are_waits_fit (program_of ground.now) waits.now) }
+    requires made { MadeFor (program_of ground.now) env.now }
+    ensures { AreKeys (keys_of (program_of ground.now) env.now.this waits.now env.now.cells) result }
+{
+    let mut keys = List::new(ground.alloc);
+    for wait in waits {
+        let reference = eval(ground.accepted, &wait.reference, env)?;
+        let entry = entry_number(ground.accepted, wait.entry);
+        keys.push(Key { entry, reference })?;
+    }
+    Ok(keys)
+}
+
+ghost use Rattle.bs_check.specs.Known.{is_entry};
+ghost use Rattle.bs_semantics.specs.Layout.{entry_of};
+
+fn entry_number(accepted: &Accepted, name: NameId) -> u32
+    requires { IsTrue (is_entry accepted.now.program name) }
+    ensures { result ≡ entry_of accepted.now.program name }
+{
+    match accepted.kind(name) {
+        Kind::Entry(number, _) => number,
+        _ => unreachable!(),
+    }
+}
+
+fn write_asked(
+    ground: &Ground,
+    keys: &[Key],
+    number: u32,
+    trail: &mut Trail,
+) -> Result<(), HistoryFault>
+    requires { IsWithin ground.now.limit trail.old }
+    ensures { Writes ground.now.limit (all_keys_asked number trail.old.path.items keys.now) trail.old trail.new result }
+{
+    for key in keys {
+        trail.ask(ground.alloc, number, *key, ground.limit)?;
+    }
+    Ok(())
+}
+
+// Writes a wait for each key whose message isn't there.
+fn write_missing(
+    ground: &Ground,
+    keys: &[Key],
+    number: u32,
+    trail: &mut Trail,
+) -> Result<(), HistoryFault>
+    requires { IsWithin ground.now.limit trail.old }
+    ensures { Writes ground.now.limit (all_keys_missing number trail.old.path.items (missing (mail_of ground.now) keys.now)) trail.old trail.new result }
+{
+    for key in keys {
+        if ground.mail.get(*key).is_none() {
+            trail.wait(ground.alloc, number, *key, ground.limit)?;
+        }
+    }
+    Ok(())
+}
+
+// Copies of the messages of all keys, or `None` where one isn't there.
+fn held_messages(ground: &Ground, keys: &[Key]) -> Result<Option<List<Message>>, AllocError>
+    ensures { IfOk result (λ messages. AreHeld messages (held (mail_of ground.now) keys.now)) }
+{
+    let mut messages = List::new(ground.alloc);
+    for key in keys {
+        match ground.mail.get(*key) {
+            Some(message) => messages.push(copy_message(ground.alloc, message)?)?,
+            None => return Ok(None),
+        }
+    }
+    Ok(Some(messages))
+}
+
+fn copy_message(alloc: Global, message: &Message) -> Result<Message, AllocError>
+    ensures { IfOk result (λ copy. copy ≡ message.now) }
+{
+    let origin = copy_origin(alloc, &message.origin)?;
+    let args = List::from_vec(Vec::from_slice(alloc, message.args.as_slice())?);
+    Ok(Message {
+        origin,
+        sent: message.sent,
+        args,
+    })
+}
+
+// Gives the arguments of each message to the parameters of its wait.
+fn take_arguments(accepted: &Accepted, waits: &[Wait], messages: &[Message], env: &mut Env)
+    requires fits { IsTrue (are_waits_fit accepted.now.program waits.now) }
+    requires made { MadeFor accepted.now.program env.old }
+    ensures taken { env.new ≡ record env.old { cells = take_mail accepted.now.program waits.now messages.now env.old.cells } }
+    ensures made { MadeFor accepted.now.program env.new }
+{
+    for at in 0..waits.len().min(messages.len()) {
+        let wait = &waits[at];
+        let message = &messages[at];
+        take_values(
+            accepted,
+            wait.params.as_slice(),
+            message.args.as_slice(),
+            env,
+        );
+    }
+}
+
+// Gives each parameter its argument, from left to right.
+fn take_values(accepted: &Accepted, params: &[NameId], args: &[i64], env: &mut Env)
+    requires fits { IsTrue (all_true (map (is_scalar accepted.now.program) params.now)) }
+    requires made { MadeFor accepted.now.program env.old }
+    ensures taken { env.new ≡ record env.old { cells = take_args accepted.now.program params.now args.now env.old.cells } }
+    ensures made { MadeFor accepted.now.program env.new }
+{
+    for at in 0..params.len().min(args.len()) {
+        env.set(scalar_cell(accepted, params[at]), args[at]);
+    }
+}
+
+ghost use Rattle.std.specs.Prelude.{map};
