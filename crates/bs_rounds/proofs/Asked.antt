@@ -11,7 +11,7 @@ use Rattle.bs_match.proofs.Keys.{is_same}
 use Rattle.bs_semantics.specs.Rounds.{Mem, Apart, same_key, one_asked}
 use Rattle.bs_rounds.specs.declared.stop.Stop.{Stop}
 use Rattle.bs_rounds.specs.declared.stop.Stop.TheVariants.{Long, Twice, Memory}
-use Rattle.bs_rounds.specs.State.{history_at}
+use Rattle.bs_rounds.specs.Places.{history_at}
 use Rattle.bs_rounds.specs.Asking.{IsAskedOnce, AreAskedOnce}
 use Rattle.bs_rounds.specs.Posting.{flag}
 

@@ -7,3 +7,8 @@ pub mod Taken
 pub mod NamingLeast
 pub mod NamingPlaces
 pub mod NamingMarks
+pub mod Origins
+pub mod Among
+pub mod Begun
+pub mod Settled
+pub mod Becoming

@@ -6,7 +6,7 @@ use Rattle.bs_semantics.specs.Rounds.{Apart, one_asked}
 use Rattle.bs_rounds.specs.declared.stop.Stop.{Stop}
 use Rattle.bs_rounds.specs.declared.stop.Stop.TheVariants.{Long, Twice, Memory}
 use Rattle.bs_rounds.specs.Posting.{flag}
-use Rattle.bs_rounds.specs.State.{history_at}
+use Rattle.bs_rounds.specs.Places.{history_at}
 
 -- no key is asked for twice, or one is
 abbrev pub IsAskedOnce : List Asked → Result (Unit {0}) Stop → Type 0

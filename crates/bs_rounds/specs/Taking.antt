@@ -10,7 +10,7 @@ use Rattle.bs_semantics.specs.Rounds.{chares}
 use Rattle.bs_rounds.specs.declared.stop.Stop.{Stop}
 use Rattle.bs_rounds.specs.declared.stop.Stop.TheVariants.{Long, Twice, Memory}
 use Rattle.bs_rounds.specs.Posting.{flag, held}
-use Rattle.bs_rounds.specs.State.{history_at}
+use Rattle.bs_rounds.specs.Places.{history_at}
 
 -- no message of a mail is deeper than 262,144
 abbrev pub IsShallow : Lookup → Type 0

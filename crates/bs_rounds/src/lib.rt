@@ -9,6 +9,7 @@ mod copies;
 mod naming;
 mod posting;
 mod rounds;
+mod state;
 mod stop;
 mod taking;
 
