@@ -12,3 +12,4 @@ pub mod Among
 pub mod Begun
 pub mod Settled
 pub mod Becoming
+pub mod Decided

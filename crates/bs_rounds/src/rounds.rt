@@ -21,7 +21,7 @@ pub fn verdict(alloc: Global, accepted: &Accepted, limit: u64) -> Result<Verdict
 {
     let mut chares = Chares::start(alloc, accepted, limit)?;
     // Each round that doesn't decide sends a message more, and no more than the limit are sent.
-    for _ in 0..=limit {
+    for _ in 0..limit + 1 {
         if let Some(verdict) = decide(alloc, accepted, limit, &mut chares)? {
             return Ok(verdict);
         }
