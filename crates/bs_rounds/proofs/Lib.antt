@@ -1,3 +1,15 @@
+pub mod Items
+pub mod Posts
+pub mod Single
+pub mod Asked
+pub mod Shallow
+pub mod Taken
 pub mod NamingLeast
 pub mod NamingPlaces
 pub mod NamingMarks
+pub mod Origins
+pub mod Among
+pub mod Begun
+pub mod Settled
+pub mod Becoming
+pub mod Decided

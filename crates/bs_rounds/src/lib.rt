@@ -4,8 +4,14 @@
 #![tactic(auto)]
 
 mod answer;
+mod asking;
+mod copies;
 mod naming;
+mod posting;
 mod rounds;
+mod state;
+mod stop;
+mod taking;
 
 pub use answer::{At, Twice, Verdict};
 pub use bs_history::{HistoryFault, history};
