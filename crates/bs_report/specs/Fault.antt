@@ -1,6 +1,6 @@
 -- The line that a refusal writes.
-use Rattle.std.specs.Prelude.{ℕ, List, [], ◌++◌, codes}
-use Rattle.std.specs.Fmt.{decimal}
+use Rattle.std.specs.Prelude.{ℕ, Bool, true, false, List, [], ◌++◌, codes}
+use Rattle.std.specs.Fmt.{decimal, signed_decimal}
 use Rattle.bs_check.specs.declared.fault.CheckFault.{CheckFault}
 use Rattle.bs_check.specs.declared.fault.CheckFault.TheVariants as check
 use Rattle.bs_check.specs.declared.fault.Rule.{Rule}
@@ -9,13 +9,16 @@ use Rattle.bs_lex.specs.declared.token.LexFault.{LexFault}
 use Rattle.bs_lex.specs.declared.token.LexFault.TheVariants as lex
 use Rattle.bs_parse.specs.declared.text.ParseFault.{ParseFault}
 use Rattle.bs_parse.specs.declared.text.ParseFault.TheVariants as parse
+use Rattle.bs_log.specs.declared.history.Key.{Key}
 use Rattle.bs_machine.specs.Keys.{table_of, name_of}
 use Rattle.bs_machine.specs.declared.fault.MachineFault.{MachineFault}
 use Rattle.bs_machine.specs.declared.fault.MachineFault.TheVariants.{NotToml, UnknownKey, Missing, OutOfRange, Memory}
 use Rattle.bs_machine.specs.declared.fitted.PlaceLength.{PlaceLength}
 use Rattle.bs_machine.specs.declared.key.MachineKey.{MachineKey}
+use Rattle.bs_rounds.specs.declared.answer.At.{At}
+use Rattle.bs_rounds.specs.declared.answer.Twice.{Twice}
 use Rattle.bs_report.specs.declared.faults.Fault.{Fault}
-use Rattle.bs_report.specs.declared.faults.Fault.TheVariants.{BadWords, BadProgram, CheckFailed, NotBuilt, BadMachine, BadPlace, TooBig}
+use Rattle.bs_report.specs.declared.faults.Fault.TheVariants.{BadWords, BadProgram, CheckFailed, BadMachine, BadPlace, Ambiguous, TooLong, TooBig}
 
 -- the place is a byte of the text, counted from 0
 abbrev pub program_line : ℕ → List ℕ → List ℕ
@@ -73,11 +76,29 @@ machine_text Memory = []
 abbrev pub place_text : PlaceLength → List ℕ
 place_text length = codes "bad machine: place length " ++ (decimal length.given ++ (codes " needs " ++ (decimal length.needed ++ codes "\n")))
 
+-- a statement of a chare; chares are counted from 0, statements from 1
+abbrev pub at_text : At → List ℕ
+at_text at = codes "chare " ++ decimal at.chare ++ codes " stmt " ++ decimal at.stmt
+
+abbrev pub twice_word : Bool → List ℕ
+twice_word true = codes " asked by "
+twice_word false = codes " sent by "
+
+-- a key of a chare; entries are counted from 0
+abbrev pub key_of_chare : ℕ → Key → List ℕ
+key_of_chare chare key = codes "ambiguous: chare " ++ decimal chare ++ codes " entry " ++ decimal key.entry ++ codes " ref " ++ signed_decimal key.reference
+
+-- a key that a chare is sent or asks twice, and the first two statements that do so
+abbrev pub twice_text : Twice → List ℕ
+twice_text twice =
+    key_of_chare twice.chare twice.key ++ twice_word twice.asked ++ at_text twice.first ++ codes " and " ++ at_text twice.second ++ codes "\n"
+
 abbrev pub fault_text : Fault → List ℕ
 fault_text BadWords = codes "bad words\n"
 fault_text (BadProgram fault) = parse_text fault
 fault_text (CheckFailed fault) = check_text fault
-fault_text NotBuilt = codes "bad program: not built\n"
 fault_text (BadMachine fault) = machine_text fault
 fault_text (BadPlace length) = place_text length
+fault_text (Ambiguous twice) = twice_text twice
+fault_text (TooLong limit) = codes "too long: limit " ++ decimal limit ++ codes "\n"
 fault_text (TooBig limit) = codes "too big: limit " ++ decimal limit ++ codes " bytes\n"

@@ -1,12 +1,15 @@
 // Why a command is refused, and the line that says so.
-ghost use Rattle.std.specs.Prelude.{◌≡◌, IfOk};
-ghost use Rattle.bs_report.specs.Fault.{check_line, check_text, fault_text, interference_line, machine_text, parse_text, place_text, program_line as program_line_of};
+ghost use Rattle.std.specs.Prelude.{◌≡◌, ◌++◌, IfOk, OnOk, string_bytes};
+ghost use Rattle.bs_report.specs.Fault.{at_text, check_line, check_text, fault_text, interference_line, key_of_chare, machine_text, parse_text, place_text, program_line as program_line_of, twice_text, twice_word as twice_word_of};
 
 use bs_check::{CheckFault, Rule};
 use bs_lex::LexFault;
+use bs_log::Key;
 use bs_machine::{MachineFault, PlaceLength};
 use bs_parse::ParseFault;
+use bs_rounds::{At, Twice};
 use std::alloc::{AllocError, Global};
+use std::fmt::Write;
 
 /// Why a command is refused.
 #[derive(Debug, Drop)]
@@ -17,12 +20,14 @@ pub enum Fault {
     BadProgram(ParseFault),
     /// The program breaks a rule of the language. Want of memory has no line, and never stands here.
     CheckFailed(CheckFault),
-    /// The program is none of those that can be run yet.
-    NotBuilt,
     /// The machine's file is no machine. Want of memory has no line, and never stands here.
     BadMachine(MachineFault),
     /// The machine's list of homes has another length than there are chares.
     BadPlace(PlaceLength),
+    /// A chare is sent one key twice, or asks for one key twice.
+    Ambiguous(Twice),
+    /// The size of the run is above this limit.
+    TooLong(u64),
     /// A file has more bytes than this limit.
     TooBig(u64),
 }
@@ -35,9 +40,13 @@ pub fn fault_line(alloc: Global, fault: &Fault) -> Result<Vec<u8>, AllocError>
         Fault::BadWords => b"bad words\n".to_vec(alloc),
         Fault::BadProgram(fault) => parse_line(alloc, *fault),
         Fault::CheckFailed(fault) => check_failed_line(alloc, *fault),
-        Fault::NotBuilt => b"bad program: not built\n".to_vec(alloc),
         Fault::BadMachine(fault) => machine_line(alloc, *fault),
         Fault::BadPlace(length) => place_line(alloc, *length),
+        Fault::Ambiguous(twice) => ambiguous_line(alloc, *twice),
+        Fault::TooLong(limit) => {
+            let line = format!(in alloc; "too long: limit {limit}\n")?;
+            Ok(line.into_bytes())
+        }
         Fault::TooBig(limit) => {
             let line = format!(in alloc; "too big: limit {limit} bytes\n")?;
             Ok(line.into_bytes())
@@ -131,4 +140,39 @@ fn place_line(alloc: Global, length: PlaceLength) -> Result<Vec<u8>, AllocError>
     let PlaceLength { given, needed } = length;
     let line = format!(in alloc; "bad machine: place length {given} needs {needed}\n")?;
     Ok(line.into_bytes())
+}
+
+fn ambiguous_line(alloc: Global, twice: Twice) -> Result<Vec<u8>, AllocError>
+    ensures { IfOk result (λ line. line.items ≡ twice_text twice) }
+{
+    let mut line = String::new(alloc);
+    write_key(&mut line, twice.chare, twice.key)?;
+    line.push_str(twice_word(twice.asked))?;
+    write_at(&mut line, twice.first)?;
+    line.push_str(" and ")?;
+    write_at(&mut line, twice.second)?;
+    line.push_str("\n")?;
+    Ok(line.into_bytes())
+}
+
+fn write_key(line: &mut String, chare: u32, key: Key) -> Result<(), AllocError>
+    ensures { OnOk result (string_bytes line.new ≡ string_bytes line.old ++ key_of_chare chare key) }
+{
+    write!(
+        line,
+        "ambiguous: chare {chare} entry {} ref {}",
+        key.entry, key.reference
+    )
+}
+
+fn twice_word(asked: bool) -> &'static str
+    ensures { result.now ≡ twice_word_of asked }
+{
+    if asked { " asked by " } else { " sent by " }
+}
+
+fn write_at(line: &mut String, at: At) -> Result<(), AllocError>
+    ensures { OnOk result (string_bytes line.new ≡ string_bytes line.old ++ at_text at) }
+{
+    write!(line, "chare {} stmt {}", at.chare, at.stmt)
 }

@@ -8,6 +8,7 @@ use bs_lex::{LexFault, TokenKind};
 use bs_log::{End, Key, OutRow, Outcome, TrapKind, TrapRow, WaitRow};
 use bs_machine::{MachineFault, MachineKey, PlaceLength};
 use bs_parse::ParseFault;
+use bs_rounds::{At, Twice};
 use bs_tree::List;
 use std::alloc::{AllocError, Global};
 use std::process::Abort;
@@ -252,11 +253,28 @@ fn refused(stmt: u32, rule: Rule) -> Fault {
     Fault::CheckFailed(CheckFault::Refused(stmt, rule))
 }
 
+fn at(chare: u32, stmt: u32) -> At {
+    At { chare, stmt }
+}
+
+fn twice(asked: bool, chare: u32, reference: i64, first: At, second: At) -> Twice {
+    let key = Key {
+        entry: 0,
+        reference,
+    };
+    Twice {
+        asked,
+        chare,
+        key,
+        first,
+        second,
+    }
+}
+
 #[test]
 fn fault_lines(rt: HostRuntime) -> Result<(), Fail> {
     let cases = [
         (Fault::BadWords, "bad words\n"),
-        (Fault::NotBuilt, "bad program: not built\n"),
         (
             Fault::BadProgram(ParseFault::Lex(LexFault::NotUtf8(0))),
             "bad program: byte 0 not utf-8\n",
@@ -322,6 +340,15 @@ fn fault_lines(rt: HostRuntime) -> Result<(), Fail> {
             }),
             "bad machine: place length 2 needs 3\n",
         ),
+        (
+            Fault::Ambiguous(twice(false, 1, 0, at(0, 2), at(0, 3))),
+            "ambiguous: chare 1 entry 0 ref 0 sent by chare 0 stmt 2 and chare 0 stmt 3\n",
+        ),
+        (
+            Fault::Ambiguous(twice(true, 0, -7, at(0, 2), at(0, 4))),
+            "ambiguous: chare 0 entry 0 ref -7 asked by chare 0 stmt 2 and chare 0 stmt 4\n",
+        ),
+        (Fault::TooLong(2), "too long: limit 2\n"),
         (Fault::TooBig(1_048_576), "too big: limit 1048576 bytes\n"),
     ];
     for (fault, want) in &cases {

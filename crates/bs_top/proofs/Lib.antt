@@ -9,3 +9,5 @@ mod Told
 mod OneStep
 mod OneMachine
 mod OneAnswer
+mod Limits
+mod Completing

@@ -10,45 +10,42 @@ use Rattle.bs_print.specs.Canonical.{text_of}
 use Rattle.bs_log.specs.declared.outcome.Outcome.{Outcome}
 use Rattle.bs_machine.specs.File.{machine_in}
 use Rattle.bs_machine.specs.Machine.{MachineOf, flat_in}
+use Rattle.bs_model.specs.Machine.{machine_of}
 use Rattle.bs_parse.specs.TextLaws.{OneProgram, OneFault, NotBoth}
 use Rattle.bs_report.specs.declared.faults.Fault.TheVariants as fault
 use Rattle.bs_report.specs.End.{end_of}
 use Rattle.bs_report.specs.Report.{report_text}
 use Rattle.bs_semantics.specs.Serial.{IsSerial, Machine, Simulated, timed}
-use Rattle.bs_small.specs.Machine.{machine_of}
+use Rattle.bs_semantics.specs.Verdict.{IsVerdict, Verdict}
 use Rattle.bs_tree.specs.declared.tree.Program.{Program}
 use Rattle.bs_top.specs.declared.stop.Stop.TheVariants.{Refused}
-use Rattle.bs_top.specs.Answer.{Answer, IsAnswer, IsReport, accepted, answer_of, checked, contents, fits, is_built, machine_named, or_bad_machine, program_in, reply_to, run, simulated, whole}
+use Rattle.bs_top.specs.Answer.{Answer, IsAnswer, IsReport, accepted, answer_of, checked, contents, fits, if_clean, judged, machine_named, or_bad_machine, program_in, reply_to, run, simulated, whole}
 use Rattle.bs_top.specs.Step.{Said, and_then, gives}
-use Rattle.bs_top.specs.Words.{Asked, check as check_asked, model, MachineWord, flat, file, size_limit}
+use Rattle.bs_top.specs.Words.{Asked, check as check_asked, model, MachineWord, flat, file}
 use Rattle.bs_top.proofs.OneMachine.{one_machine}
 use Rattle.bs_top.proofs.OneStep.{IsOne, one_after, one_given}
 
 abbrev pub OneSerial : Type 0
 OneSerial = (p : Program) (limit : ℕ) (m : Machine) (r s : Simulated) → IsSerial p limit m r → IsSerial p limit m s → r ≡ s
 
+abbrev pub OneVerdict : Type 0
+OneVerdict = (p : Program) (limit : ℕ) (v w : Verdict) → IsVerdict p limit v → IsVerdict p limit w → v ≡ w
+
 one_contents : (files : Files) (name : List ℕ) → IsOne (contents files name)
 unfolding contents
 one_contents files name = one_given (whole (map.get files name))
 
-one_named : (files : Files) (word : MachineWord) → IsOne (machine_named files word)
+pub one_named : (files : Files) (word : MachineWord) → IsOne (machine_named files word)
 unfolding machine_named
 one_named files (flat processors latency) = one_given (or_bad_machine (flat_in processors latency))
 one_named files (file name) = one_after (contents files name) (λ bytes. gives (or_bad_machine (machine_in bytes))) (one_contents files name) (λ bytes. one_given (or_bad_machine (machine_in bytes)))
 
-one_fit : (chares : ℕ) (m : MachineOf) → IsOne (fits chares m)
+pub one_fit : (chares : ℕ) (m : MachineOf) → IsOne (fits chares m)
 unfolding fits
 one_fit chares m r s a b = sym a ∙ b
 
 outcome_is : (o q : Outcome) → timed o ≡ timed q → o ≡ q
 outcome_is o q e = cc
-
-one_built : (p : Program) → IsOne (is_built p)
-unfolding is_built
-one_built p (Ok a) (Ok b) h k = refl
-one_built p (Ok a) (Err s) h k = absurd (k.1 h.0 h.1)
-one_built p (Err r) (Ok b) h k = absurd (h.1 k.0 k.1)
-one_built p (Err r) (Err s) h k = ap (λ t. Err t) (h.0 ∙ sym k.0)
 
 same_broken : (o : Option Broken) (a b : Broken) → o ≡ Some a → o ≡ Some b → a ≡ b
 same_broken o a b h k = cc
@@ -72,7 +69,7 @@ one_checked p (Ok a) (Err s) h k = absurd (not_refused p k.0 h k.1)
 one_checked p (Err r) (Ok b) h k = absurd (not_refused p h.0 k h.1)
 one_checked p (Err r) (Err s) h k = ap (λ t. Err t) (h.2 ∙ ap (λ f. Refused (fault.CheckFailed f)) (broken_is p h.0 k.0 h.1 k.1) ∙ sym k.2)
 
-module _ (program : OneProgram) (fault_is : OneFault) (not_both : NotBoth) (serial : OneSerial) where
+module _ (program : OneProgram) (fault_is : OneFault) (not_both : NotBoth) (verdict : OneVerdict) (serial : OneSerial) where
   one_program : (text : List ℕ) → IsOne (program_in text)
   unfolding program_in
   one_program text (Ok p) (Ok q) h k = ap (λ r. Ok r) (program text p q h k)
@@ -80,38 +77,42 @@ module _ (program : OneProgram) (fault_is : OneFault) (not_both : NotBoth) (seri
   one_program text (Err r) (Ok q) h k = absurd (not_both text q h.0 k h.1)
   one_program text (Err r) (Err s) h k = ap (λ t. Err t) (h.2 ∙ ap (λ f. Refused (fault.BadProgram f)) (fault_is text h.0 k.0 h.1 k.1) ∙ sym k.2)
 
-  same_outcome : (p : Program) (m : MachineOf) (a b : Said) (h : IsReport p m a) (k : IsReport p m b) → h.outcome ≡ k.outcome
-  same_outcome p m a b h k =
+  pub one_judged : (p : Program) (limit : ℕ) → IsOne (judged p limit)
+  unfolding judged
+  one_judged p limit r s h k = sym h.2 ∙ ap (if_clean limit) (verdict p limit h.0 k.0 h.1 k.1) ∙ k.2
+
+  same_outcome : (p : Program) (m : MachineOf) (limit : ℕ) (a b : Said) (h : IsReport p m limit a) (k : IsReport p m limit b) → h.outcome ≡ k.outcome
+  same_outcome p m limit a b h k =
       let machine = one_machine k.fitted h.fitted (k.is_machine ∙ sym h.is_machine) (k.is_fitted ∙ sym h.is_fitted) in
-      outcome_is h.outcome k.outcome (serial p size_limit (machine_of h.fitted) (timed h.outcome) (timed k.outcome) h.is_outcome (subst (λ m. IsSerial p size_limit m (timed k.outcome)) machine k.is_outcome))
+      outcome_is h.outcome k.outcome (serial p limit (machine_of h.fitted) (timed h.outcome) (timed k.outcome) h.is_outcome (subst (λ m. IsSerial p limit m (timed k.outcome)) machine k.is_outcome))
 
-  one_run : (p : Program) (m : MachineOf) → IsOne (run p m)
-  one_run p m (Ok a) (Ok b) h k =
-      ap (λ s. Ok s) (h.is_said ∙ ap (λ (o : Outcome). record { end = end_of o; text = report_text o }) (same_outcome p m a b h k) ∙ sym k.is_said)
-  one_run p m (Ok a) (Err s) h k = absurd k
-  one_run p m (Err r) s h k = absurd h
+  one_run : (p : Program) (m : MachineOf) (limit : ℕ) → IsOne (run p m limit)
+  one_run p m limit (Ok a) (Ok b) h k =
+      ap (λ s. Ok s) (h.is_said ∙ ap (λ (o : Outcome). record { end = end_of o; text = report_text o }) (same_outcome p m limit a b h k) ∙ sym k.is_said)
+  one_run p m limit (Ok a) (Err s) h k = absurd k
+  one_run p m limit (Err r) s h k = absurd h
 
-  one_simulated : (p : Program) (m : MachineOf) → IsOne (simulated p m)
+  one_simulated : (p : Program) (m : MachineOf) (limit : ℕ) → IsOne (simulated p m limit)
   unfolding simulated
-  one_simulated p m = one_after (fits p.chares m) (λ _. and_then (is_built p) (λ _. run p m)) (one_fit p.chares m)
-      (λ _. one_after (is_built p) (λ _. run p m) (one_built p) (λ _. one_run p m))
+  one_simulated p m limit = one_after (fits p.chares m) (λ _. and_then (judged p limit) (λ _. run p m limit)) (one_fit p.chares m)
+      (λ _. one_after (judged p limit) (λ _. run p m limit) (one_judged p limit) (λ _. one_run p m limit))
 
-  one_accepted : (files : Files) (name : List ℕ) → IsOne (accepted files name)
+  pub one_accepted : (files : Files) (name : List ℕ) → IsOne (accepted files name)
   unfolding accepted
   one_accepted files name =
       one_after (contents files name) (λ text. and_then (program_in text) (λ p. and_then (checked p) (λ _. gives (Ok p)))) (one_contents files name)
       (λ text. one_after (program_in text) (λ p. and_then (checked p) (λ _. gives (Ok p))) (one_program text)
       (λ p. one_after (checked p) (λ _. gives (Ok p)) (one_checked p) (λ _. one_given (Ok p))))
 
-  one_reply : (files : Files) (asked : Option Asked) → IsOne (reply_to files asked)
+  pub one_reply : (files : Files) (asked : Option Asked) → IsOne (reply_to files asked)
   unfolding reply_to
   one_reply files None = one_given (Err (Refused fault.BadWords))
   one_reply files (Some (check_asked name)) =
       one_after (accepted files name) (λ p. gives (Ok (record { end = end.Settled; text = text_of p }))) (one_accepted files name)
       (λ p. one_given (Ok (record { end = end.Settled; text = text_of p })))
-  one_reply files (Some (model name word)) =
-      one_after (accepted files name) (λ p. and_then (machine_named files word) (λ m. simulated p m)) (one_accepted files name)
-      (λ p. one_after (machine_named files word) (λ m. simulated p m) (one_named files word) (λ m. one_simulated p m))
+  one_reply files (Some (model name word limit)) =
+      one_after (accepted files name) (λ p. and_then (machine_named files word) (λ m. simulated p m limit)) (one_accepted files name)
+      (λ p. one_after (machine_named files word) (λ m. simulated p m limit) (one_named files word) (λ m. one_simulated p m limit))
 
   pub one : (files : Files) (asked : Option Asked) (a b : Answer) → IsAnswer files asked a → IsAnswer files asked b → a ≡ b
   one files asked a b h k = h.is_answer ∙ ap answer_of (one_reply files asked h.reply k.reply h.is_reply k.is_reply) ∙ sym k.is_answer

@@ -34,7 +34,7 @@ nothing a = tt
 -- the name of the program's file
 abbrev pub AsksFor : List ℕ → Asked → Type 0
 AsksFor name (check n) = name ≡ n
-AsksFor name (model n word) = name ≡ n
+AsksFor name (model n word limit) = name ≡ n
 
 module _ (files : Files) (name : List ℕ) where
   pub no_text : (stop : Stop) → Told items (contents files name) (Err stop) → Told program_of (accepted files name) (Err stop)
@@ -64,24 +64,24 @@ module _ (files : Files) (name : List ℕ) where
   unfolding reply_to
   not_accepted (check n) stop is h = subst (λ k. Told said_of (reply_to files (Some (check k))) (Err stop)) is
       (stops program_of said_of (accepted files name) (λ p. gives (Ok (record { end = end.Settled; text = text_of p }))) stop h)
-  not_accepted (model n word) stop is h = subst (λ k. Told said_of (reply_to files (Some (model k word))) (Err stop)) is
-      (stops program_of said_of (accepted files name) (λ p. and_then (machine_named files word) (λ m. simulated p m)) stop h)
+  not_accepted (model n word limit) stop is h = subst (λ k. Told said_of (reply_to files (Some (model k word limit))) (Err stop)) is
+      (stops program_of said_of (accepted files name) (λ p. and_then (machine_named files word) (λ m. simulated p m limit)) stop h)
 
   module _ (p : Program) (is_program : accepted files name (Ok p)) where
     pub prints : (said : Said) → said ≡ record { end = end.Settled; text = text_of p } → reply_to files (Some (check name)) (Ok said)
     unfolding reply_to
     prints said is = (p, is_program, ap (λ s. Ok s) (sym is))
 
-    module _ (word : MachineWord) where
-      on_program : (r : Result Reply Stop) → Told said_of (and_then (machine_named files word) (λ m. simulated p m)) r → Told said_of (reply_to files (Some (model name word))) r
+    module _ (word : MachineWord) (limit : ℕ) where
+      on_program : (r : Result Reply Stop) → Told said_of (and_then (machine_named files word) (λ m. simulated p m limit)) r → Told said_of (reply_to files (Some (model name word limit))) r
       unfolding reply_to
-      on_program r h = goes_on said_of (accepted files name) (λ p. and_then (machine_named files word) (λ m. simulated p m)) p r is_program h
+      on_program r h = goes_on said_of (accepted files name) (λ p. and_then (machine_named files word) (λ m. simulated p m limit)) p r is_program h
 
-      pub no_machine : (stop : Stop) → Told machine_view (machine_named files word) (Err stop) → Told said_of (reply_to files (Some (model name word))) (Err stop)
-      no_machine stop h = on_program (Err stop) (stops machine_view said_of (machine_named files word) (λ m. simulated p m) stop h)
+      pub no_machine : (stop : Stop) → Told machine_view (machine_named files word) (Err stop) → Told said_of (reply_to files (Some (model name word limit))) (Err stop)
+      no_machine stop h = on_program (Err stop) (stops machine_view said_of (machine_named files word) (λ m. simulated p m limit) stop h)
 
-      pub on_machine : (m : MachineOf) (r : Result Reply Stop) → machine_named files word (Ok m) → Told said_of (simulated p m) r → Told said_of (reply_to files (Some (model name word))) r
-      on_machine m r h k = on_program r (goes_on said_of (machine_named files word) (λ m. simulated p m) m r h k)
+      pub on_machine : (m : MachineOf) (r : Result Reply Stop) → machine_named files word (Ok m) → Told said_of (simulated p m limit) r → Told said_of (reply_to files (Some (model name word limit))) r
+      on_machine m r h k = on_program r (goes_on said_of (machine_named files word) (λ m. simulated p m limit) m r h k)
 
 pub no_words : (files : Files) → Told said_of (reply_to files None) (Err (Refused fault.BadWords))
 unfolding reply_to

@@ -35,6 +35,8 @@ module _ (files : Files) (asked : Option Asked) (old new : Outside) where
   whole_status status.BadProgram f a is w = (a, is, w)
   whole_status status.CheckFailed f a is w = (a, is, w)
   whole_status status.BadMachine f a is w = (a, is, w)
+  whole_status status.AmbiguousMatch f a is w = (a, is, w)
+  whole_status status.TooLong f a is w = (a, is, w)
   whole_status status.TooBig f a is w = (a, is, w)
   whole_status status.ReadFault f a is w = absurd f
   whole_status status.WriteFault f a is w = absurd f
@@ -76,9 +78,10 @@ final_fault : (f : Fault) → IsWholeStatus (refused_by f)
 final_fault fault.BadWords = tt
 final_fault (fault.BadProgram why) = tt
 final_fault (fault.CheckFailed why) = tt
-final_fault fault.NotBuilt = tt
 final_fault (fault.BadMachine why) = tt
 final_fault (fault.BadPlace length) = tt
+final_fault (fault.Ambiguous twice) = tt
+final_fault (fault.TooLong limit) = tt
 final_fault (fault.TooBig limit) = tt
 
 module _ (files : Files) (asked : Option Asked) where

@@ -13,6 +13,7 @@ use Rattle.bs_machine.specs.File.{machine_in}
 use Rattle.bs_machine.specs.Machine.{MachineOf, flat_in, machine_view}
 use Rattle.bs_machine.specs.declared.fault.MachineFault.{MachineFault}
 use Rattle.bs_machine.specs.declared.fitted.Fitted.{Fitted}
+use Rattle.bs_model.specs.Machine.{machine_of}
 use Rattle.bs_net.specs.Home.{has_length, homes_in}
 use Rattle.bs_parse.specs.Text.{IsFault, Spells}
 use Rattle.bs_parse.specs.declared.text.ParseFault.{ParseFault}
@@ -22,17 +23,17 @@ use Rattle.bs_report.specs.declared.faults.Fault.TheVariants as fault
 use Rattle.bs_report.specs.End.{end_of}
 use Rattle.bs_report.specs.Fault.{fault_text}
 use Rattle.bs_report.specs.Report.{report_text}
+use Rattle.bs_rounds.specs.declared.answer.At.{At}
+use Rattle.bs_rounds.specs.declared.answer.Twice.{Twice}
 use Rattle.bs_semantics.specs.Serial.{IsSerial, timed}
-use Rattle.bs_small.specs.declared.form.Small.{Small}
-use Rattle.bs_small.specs.Program.{IsSmallProgram, IsNotSmall}
-use Rattle.bs_small.specs.Machine.{machine_of}
+use Rattle.bs_semantics.specs.Verdict as rounds
 use Rattle.bs_tree.specs.declared.tree.Program.{Program}
 use Rattle.bs_top.specs.declared.status.Status.{Status}
 use Rattle.bs_top.specs.declared.status.Status.TheVariants as status
 use Rattle.bs_top.specs.declared.stop.Stop.{Stop}
 use Rattle.bs_top.specs.declared.stop.Stop.TheVariants.{Refused, NoFile, ReadFault, Memory}
 use Rattle.bs_top.specs.Step.{Step, Said, gives, ◌>>=◌}
-use Rattle.bs_top.specs.Words.{Asked, check, model, MachineWord, flat, file, size_limit}
+use Rattle.bs_top.specs.Words.{Asked, check, model, MachineWord, flat, file}
 
 -- a file has at most this many bytes
 abbrev pub file_limit : ℕ
@@ -75,34 +76,46 @@ accepted files name = do
   _ ← checked program
   gives (Ok program)
 
--- so far programs of the small form are run, and no others
-unfoldable pub is_built : Program → Step (Unit {0})
-is_built p (Ok _) = (s : Small) × IsSmallProgram p s
-is_built p (Err stop) = (stop ≡ Refused fault.NotBuilt) × IsNotSmall p
-
 -- the machine has a processor for each chare
 unfoldable pub fits : ℕ → MachineOf → Step (Unit {0})
 fits chares m = gives (if has_length m.place chares then Ok tt else Err (Refused (fault.BadPlace (record { given = homes_in m.place; needed = chares }))))
 
+abbrev pub at_told : rounds.At → At
+at_told at = record { chare = at.chare; stmt = at.stmt }
+
+-- a key that a chare is sent or asks twice, as its line tells it
+abbrev pub twice_told : rounds.Twice → Twice
+twice_told t = record { asked = t.asked; chare = t.chare; key = t.key; first = at_told t.first; second = at_told t.second }
+
+-- a program is run only where its verdict is Clean
+abbrev pub if_clean : ℕ → rounds.Verdict → Result (Unit {0}) Stop
+if_clean limit (rounds.clean histories) = Ok tt
+if_clean limit (rounds.twice t) = Err (Refused (fault.Ambiguous (twice_told t)))
+if_clean limit rounds.too_long = Err (Refused (fault.TooLong limit))
+
+-- the verdict on the program at that limit of sizes
+unfoldable pub judged : Program → ℕ → Step (Unit {0})
+judged p limit result = (verdict : rounds.Verdict) × rounds.IsVerdict p limit verdict × (if_clean limit verdict ≡ result)
+
 -- the report of an outcome that the serial machine model gives
-pub record IsReport (p : Program) (m : MachineOf) (said : Said) : Type 0 where
+pub record IsReport (p : Program) (m : MachineOf) (limit : ℕ) (said : Said) : Type 0 where
   pub fitted : Fitted
   pub outcome : Outcome
   pub is_machine : machine_view fitted.machine ≡ m
   pub is_fitted : fitted.chares ≡ p.chares
-  pub is_outcome : IsSerial p size_limit (machine_of fitted) (timed outcome)
+  pub is_outcome : IsSerial p limit (machine_of fitted) (timed outcome)
   pub is_said : said ≡ record { end = end_of outcome; text = report_text outcome }
 
-abbrev pub run : Program → MachineOf → Step Said
-run p m (Ok said) = IsReport p m said
-run p m (Err stop) = ⊥
+abbrev pub run : Program → MachineOf → ℕ → Step Said
+run p m limit (Ok said) = IsReport p m limit said
+run p m limit (Err stop) = ⊥
 
--- what comes of a program on a machine
-unfoldable pub simulated : Program → MachineOf → Step Said
-simulated program machine = do
+-- what comes of a program on a machine, at a limit of sizes
+unfoldable pub simulated : Program → MachineOf → ℕ → Step Said
+simulated program machine limit = do
   _ ← fits program.chares machine
-  _ ← is_built program
-  run program machine
+  _ ← judged program limit
+  run program machine limit
 
 -- what comes of a command; so it is that words which are none come to a refusal
 unfoldable pub reply_to : Files → Option Asked → Step Said
@@ -110,10 +123,10 @@ reply_to files None = gives (Err (Refused fault.BadWords))
 reply_to files (Some (check name)) = do
   program ← accepted files name
   gives (Ok (record { end = end.Settled; text = text_of program }))
-reply_to files (Some (model name word)) = do
+reply_to files (Some (model name word limit)) = do
   program ← accepted files name
   machine ← machine_named files word
-  simulated program machine
+  simulated program machine limit
 
 -- ---- what is written
 
@@ -127,9 +140,10 @@ abbrev pub refused_by : Fault → Status
 refused_by fault.BadWords = status.BadWords
 refused_by (fault.BadProgram why) = status.BadProgram
 refused_by (fault.CheckFailed why) = status.CheckFailed
-refused_by fault.NotBuilt = status.BadProgram
 refused_by (fault.BadMachine why) = status.BadMachine
 refused_by (fault.BadPlace length) = status.BadMachine
+refused_by (fault.Ambiguous twice) = status.AmbiguousMatch
+refused_by (fault.TooLong limit) = status.TooLong
 refused_by (fault.TooBig limit) = status.TooBig
 
 -- a status, and the one text that is written to a port

@@ -7,3 +7,4 @@ pub mod Answer
 pub mod Computing
 pub mod Causes
 pub mod Performs
+pub mod Complete

@@ -1,17 +1,18 @@
 // What a command asks for, as far as it is built.
 ghost use Rattle.std.specs.Prelude.{◌≡◌, ◌+◌, ◌<◌, ◌≤◌, length, take, drop, option_map, IfSome};
 ghost use Rattle.bs_words.specs.Roles.{before_colon, number_from};
-ghost use Rattle.bs_top.specs.Seen.{asked_of, word_of};
-ghost use Rattle.bs_top.specs.Words.{asked_with, built as built_of, flat_numbers, machine_word as machine_word_of};
+ghost use Rattle.bs_top.specs.Seen.{HasLimit, asked_of, word_of};
+ghost use Rattle.bs_top.specs.Words.{IsLimit, asked_with, built as built_of, flat_numbers, machine_word as machine_word_of};
 
 use bs_num::read_decimal;
 use bs_words::{Argument, Command, Verb};
 
-/// A command that is built, with the name of the program's file.
+/// A command that is built, with the name of the program's file, and the limit of sizes where there
+/// is one.
 #[derive(Clone, Copy, Drop)]
 pub(crate) enum Asked<'a> {
     Check(&'a str),
-    Model(&'a str, MachineWord<'a>),
+    Model(&'a str, MachineWord<'a>, u64),
 }
 
 /// A machine: its processors and its latency, or the name of its file.
@@ -23,23 +24,23 @@ pub(crate) enum MachineWord<'a> {
 
 /// What the command asks for, where it is built. It takes no memory.
 pub(crate) fn built(command: &Command) -> Option<Asked<'_>>
-    ensures { option_map asked_of result ≡ built_of command.now }
+    requires { IsLimit command.now.limit }
+    ensures value { option_map asked_of result ≡ built_of command.now }
+    ensures limit { IfSome result HasLimit }
 {
-    if command.limit == 262_144 {
-        with_names(command.verb, command.names.as_slice())
-    } else {
-        None
-    }
+    with_names(command.limit, command.verb, command.names.as_slice())
 }
 
-fn with_names(verb: Verb, names: &[Argument]) -> Option<Asked<'_>>
-    ensures { option_map asked_of result ≡ asked_with verb names.now }
+fn with_names(limit: u64, verb: Verb, names: &[Argument]) -> Option<Asked<'_>>
+    requires { IsLimit limit }
+    ensures value { option_map asked_of result ≡ asked_with limit verb names.now }
+    ensures limit { IfSome result HasLimit }
 {
     match (verb, names) {
         (Verb::Check, [program]) => Some(Asked::Check(program.text())),
         (Verb::Model, [program, machine]) => {
             let machine = machine_word(machine.text())?;
-            Some(Asked::Model(program.text(), machine))
+            Some(Asked::Model(program.text(), machine, limit))
         }
         _ => None,
     }

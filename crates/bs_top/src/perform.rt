@@ -46,7 +46,7 @@ fn reply<D: Desk>(alloc: Global, words: &[String], desk: &mut D) -> Result<Reply
     let command = read_words(alloc, words)?;
     match built(&command) {
         Some(Asked::Check(name)) => check_text(alloc, desk, name),
-        Some(Asked::Model(name, word)) => model(alloc, desk, name, word),
+        Some(Asked::Model(name, word, limit)) => model(alloc, desk, name, word, limit),
         None => Err(Stop::Refused(Fault::BadWords)),
     }
 }
@@ -66,9 +66,11 @@ fn refused_status(fault: &Fault) -> Status
 {
     match fault {
         Fault::BadWords => Status::BadWords,
-        Fault::BadProgram(_) | Fault::NotBuilt => Status::BadProgram,
+        Fault::BadProgram(_) => Status::BadProgram,
         Fault::CheckFailed(_) => Status::CheckFailed,
         Fault::BadMachine(_) | Fault::BadPlace(_) => Status::BadMachine,
+        Fault::Ambiguous(_) => Status::AmbiguousMatch,
+        Fault::TooLong(_) => Status::TooLong,
         Fault::TooBig(_) => Status::TooBig,
     }
 }

@@ -13,12 +13,16 @@ pub enum Status {
     Trapped,
     /// The words are no command (10).
     BadWords,
-    /// The text is no program, or none of those that can be run (11).
+    /// The text is no program (11).
     BadProgram,
     /// The program breaks a rule of the language (12).
     CheckFailed,
     /// The machine's file is no machine, or the machine doesn't fit the program (13).
     BadMachine,
+    /// A chare is sent one key twice, or asks for one key twice (15).
+    AmbiguousMatch,
+    /// The size of the run is above the limit (16).
+    TooLong,
     /// A file has more bytes than it may have (18).
     TooBig,
     /// A file could not be opened or read (20).
@@ -44,6 +48,8 @@ impl Status {
             Status::BadProgram => 11,
             Status::CheckFailed => 12,
             Status::BadMachine => 13,
+            Status::AmbiguousMatch => 15,
+            Status::TooLong => 16,
             Status::TooBig => 18,
             Status::ReadFault => 20,
             Status::WriteFault => 21,

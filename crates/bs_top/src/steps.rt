@@ -1,30 +1,33 @@
 // The steps of a command, up to its reply.
-ghost use Rattle.std.specs.Prelude.{◌≡◌, ◌≤◌, IfErr, IfOk, IfSome, Some};
+ghost use Rattle.std.specs.Prelude.{◌≡◌, ◌≤◌, IfErr, IfOk, IfSome, Ok, Some};
 ghost use Rattle.bs_desk.specs.Outside.{IsReading};
 ghost use Rattle.bs_machine.specs.File.{machine_in};
 ghost use Rattle.bs_machine.specs.Machine.{flat_in, machine_view};
 ghost use Rattle.bs_check.specs.Refusal.{IsWhole};
 ghost use Rattle.bs_parse.specs.Text.{HasText};
 ghost use Rattle.bs_print.specs.Canonical.{text_of};
-ghost use Rattle.bs_small.specs.Program.{IsSmallProgram};
-ghost use Rattle.bs_top.specs.Answer.{IsReport, accepted as accepted_of, checked, contents, fits, machine_named, or_bad_machine, program_in, reply_to, simulated};
+ghost use Rattle.bs_model.specs.Machine.{machine_of};
+ghost use Rattle.bs_report.specs.Report.{IsReportable};
+ghost use Rattle.bs_semantics.specs.Serial.{IsSerial, timed};
+ghost use Rattle.bs_top.specs.Answer.{IsReport, accepted as accepted_of, checked, contents, fits, judged, machine_named, or_bad_machine, program_in, reply_to, simulated};
 ghost use Rattle.bs_top.specs.Causes.{HasRead, StepCause};
-ghost use Rattle.bs_top.specs.Computing.{Computes, IsSmallOf};
+ghost use Rattle.bs_top.specs.Computing.{Computes, passes};
 ghost use Rattle.bs_top.specs.Seen.{said_of, word_of};
 ghost use Rattle.bs_top.specs.Step.{Told, gives};
-ghost use Rattle.bs_top.specs.Words.{check as check_asked, model as model_asked};
+ghost use Rattle.bs_top.specs.Words.{IsLimit, check as check_asked, model as model_asked};
 
 use crate::asked::MachineWord;
 use crate::stop::{Reply, Stop};
 use bs_check::{Accepted, check};
 use bs_desk::{Desk, ReadAllFault, read_all};
-use bs_log::End;
+use bs_log::{End, Outcome};
 use bs_machine::{Fitted, Machine, flat, read_machine};
+use bs_model::{Simulated, simulate};
 use bs_parse::laws::spelled_programs;
 use bs_parse::parse;
 use bs_print::print;
 use bs_report::{Fault, end, report};
-use bs_small::{Small, run, small_of};
+use bs_rounds::{Verdict, verdict};
 use bs_tree::Program;
 use std::alloc::{AllocError, Global};
 
@@ -116,24 +119,36 @@ fn accept(alloc: Global, program: Program) -> Result<Accepted, Stop>
     Ok(check(alloc, program)?)
 }
 
-// Runs a program on a machine.
-fn simulate(alloc: Global, accepted: &Accepted, machine: Machine) -> Result<Reply, Stop>
-    requires { (1 ≤ accepted.now.program.chares) × (accepted.now.program.chares ≤ 65536) }
+// Runs a program on a machine, at a limit of sizes.
+fn run(alloc: Global, accepted: &Accepted, machine: Machine, limit: u64) -> Result<Reply, Stop>
+    requires chares { (1 ≤ accepted.now.program.chares) × (accepted.now.program.chares ≤ 65536) }
+    requires limit { IsLimit limit }
     ensures kind { Computes result }
-    ensures told { Told said_of (simulated accepted.now.program (machine_view machine)) result }
+    ensures told { Told said_of (simulated accepted.now.program (machine_view machine) limit) result }
 {
     let fitted = fit(machine, accepted.chares())?;
-    let small = small_program(alloc, accepted.program())?;
-    Ok(report_of(alloc, accepted, &small, &fitted)?)
+    judge(alloc, accepted, limit)?;
+    Ok(report_of(alloc, accepted, &fitted, limit)?)
 }
 
-// What a program holds, if it is of the small form.
-fn small_program(alloc: Global, program: &Program) -> Result<Small, Stop>
-    ensures { IsSmallOf program.now result }
+// Refuses a program whose verdict isn't Clean.
+fn judge(alloc: Global, accepted: &Accepted, limit: u64) -> Result<(), Stop>
+    requires { IsLimit limit }
+    ensures kind { Computes result }
+    ensures told { Told (λ _. tt) (judged accepted.now.program limit) result }
 {
-    match small_of(alloc, program)? {
-        Some(small) => Ok(small),
-        None => Err(Stop::Refused(Fault::NotBuilt)),
+    let verdict = verdict(alloc, accepted, limit)?;
+    pass(&verdict, limit)
+}
+
+// A Clean verdict passes, and any other is told.
+fn pass(verdict: &Verdict, limit: u64) -> Result<(), Stop>
+    ensures { result ≡ passes limit verdict.now }
+{
+    match verdict {
+        Verdict::Clean(_) => Ok(()),
+        Verdict::Ambiguous(twice) => Err(Stop::Refused(Fault::Ambiguous(*twice))),
+        Verdict::TooLong => Err(Stop::Refused(Fault::TooLong(limit))),
     }
 }
 
@@ -146,23 +161,43 @@ fn fit(machine: Machine, chares: u32) -> Result<Fitted, Stop>
     Ok(machine.fit(chares)?)
 }
 
-// The report of the run of a program of the small form.
+// The report of the run of a program whose verdict is Clean.
 fn report_of(
     alloc: Global,
     accepted: &Accepted,
-    small: &Small,
     fitted: &Fitted,
+    limit: u64,
 ) -> Result<Reply, AllocError>
-    requires small { IsSmallProgram accepted.now.program small.now }
     requires chares { fitted.now.chares ≡ accepted.now.program.chares }
-    ensures { IfOk result (λ reply. IsReport accepted.now.program (machine_view fitted.now.machine) (said_of reply)) }
+    requires limit { IsLimit limit }
+    requires clean { judged accepted.now.program limit (Ok tt) }
+    ensures { IfOk result (λ reply. IsReport accepted.now.program (machine_view fitted.now.machine) limit (said_of reply)) }
 {
-    let outcome = run(alloc, accepted, small, fitted)?;
+    let outcome = outcome_of(alloc, accepted, fitted, limit)?;
     let text = report(alloc, &outcome)?;
     Ok(Reply {
         end: end(&outcome),
         text,
     })
+}
+
+// What the serial machine model gives for such a program.
+fn outcome_of(
+    alloc: Global,
+    accepted: &Accepted,
+    fitted: &Fitted,
+    limit: u64,
+) -> Result<Outcome, AllocError>
+    requires chares { fitted.now.chares ≡ accepted.now.program.chares }
+    requires limit { IsLimit limit }
+    requires clean { judged accepted.now.program limit (Ok tt) }
+    ensures serial { IfOk result (λ outcome. IsSerial accepted.now.program limit (machine_of fitted.now) (timed outcome)) }
+    ensures reportable { IfOk result IsReportable }
+{
+    match simulate(alloc, accepted, fitted, limit)? {
+        Simulated::Timed(outcome) => Ok(outcome),
+        Simulated::Unclean => unreachable!(),
+    }
 }
 
 /// Reads a program, and gives its canonical text.
@@ -186,18 +221,20 @@ fn printed(alloc: Global, program: &Program) -> Result<Reply, AllocError>
     })
 }
 
-/// Reads a program and a machine, and runs the one on the other.
+/// Reads a program and a machine, and runs the one on the other, at a limit of sizes.
 pub(crate) fn model<D: Desk>(
     alloc: Global,
     desk: &mut D,
     name: &str,
     word: MachineWord<'_>,
+    limit: u64,
 ) -> Result<Reply, Stop>
+    requires { IsLimit limit }
     ensures reading { IsReading (D.world desk.old) (D.world desk.new) }
     ensures cause { StepCause (D.world desk.old) (D.world desk.new) result }
-    ensures told { IfSome (D.world desk.old).files (λ files. Told said_of (reply_to files (Some (model_asked name.now (word_of word.entry)))) result) }
+    ensures told { IfSome (D.world desk.old).files (λ files. Told said_of (reply_to files (Some (model_asked name.now (word_of word.entry) limit))) result) }
 {
     let accepted = accepted(alloc, desk, name)?;
     let machine = machine(alloc, desk, word)?;
-    simulate(alloc, &accepted, machine)
+    run(alloc, &accepted, machine, limit)
 }

@@ -116,7 +116,7 @@ proc 1 blocks 2 busy 7 use 5384
 
 // Performs the words on a desk that holds a program `p` and a machine `m`, and looks at the status and
 // both streams.
-fn expect(
+pub(crate) fn expect(
     rt: &(impl Abort + AllocGlobal),
     texts: &[&str],
     program: &[u8],
@@ -154,7 +154,7 @@ fn reports(rt: HostRuntime) -> Result<(), Fail> {
     Ok(())
 }
 
-// Three chares on two processors, which is no program of the small form.
+// Three chares.
 const THREE_CHARES: &str = "chares 3; var x; entry go(1);
 body { if (this == 1) { serial { send go[0](1) to 0 bytes 640; work 1; send go[0](2) to 2; } }
   else { when go[0](x) { serial { work 9; emit x; } } } }
@@ -178,7 +178,37 @@ bytes_num = 1
 bytes_den = 64
 ";
 
-// A machine that doesn't fit comes before a program that can't be run yet.
+// A chare is sent one key twice.
+const SENT_TWICE: &str = "chares 2; entry go(0);
+body { if (this == 0) { serial { send go[0]() to 1; } serial { send go[0]() to 1; } } }
+";
+
+// A chare asks one key twice.
+const ASKED_TWICE: &str = "chares 1; var x; var y; entry go(1);
+body { overlap { when go[0](x) { serial { } } when go[0](y) { serial { } } } }
+";
+
+const SENT_TWICE_LINE: &str =
+    "ambiguous: chare 1 entry 0 ref 0 sent by chare 0 stmt 2 and chare 0 stmt 3\n";
+
+const ASKED_TWICE_LINE: &str =
+    "ambiguous: chare 0 entry 0 ref 0 asked by chare 0 stmt 2 and chare 0 stmt 4\n";
+
+#[test]
+fn ambiguous(rt: HostRuntime) -> Result<(), Fail> {
+    let cases = [
+        (SENT_TWICE, SENT_TWICE_LINE),
+        (ASKED_TWICE, ASKED_TWICE_LINE),
+    ];
+    let words = ["model", "p", "flat:1:1"];
+    for (program, line) in &cases {
+        let program = program.as_bytes();
+        expect(&rt, &words, program, b"", Status::AmbiguousMatch, "", line)?;
+    }
+    Ok(())
+}
+
+// A machine that doesn't fit comes before the verdict.
 #[test]
 fn place_length(rt: HostRuntime) -> Result<(), Fail> {
     let words = ["model", "p", "m"];
@@ -186,9 +216,9 @@ fn place_length(rt: HostRuntime) -> Result<(), Fail> {
     let line = "bad machine: place length 2 needs 3\n";
     let machine = TWO_HOMES.as_bytes();
     expect(&rt, &words, program, machine, Status::BadMachine, "", line)?;
-    let line = "bad program: not built\n";
-    let machine = SLOW_BYTES.as_bytes();
-    expect(&rt, &words, program, machine, Status::BadProgram, "", line)
+    let program = ASKED_TWICE.as_bytes();
+    let line = "bad machine: place length 2 needs 1\n";
+    expect(&rt, &words, program, machine, Status::BadMachine, "", line)
 }
 
 #[test]
@@ -260,7 +290,6 @@ fn bad_programs(rt: HostRuntime) -> Result<(), Fail> {
             "chares 1; body { serial { work 1 $ 2; } }",
             "bad program: byte 33 bad character\n",
         ),
-        ("chares 1; body { serial { } }", "bad program: not built\n"),
     ];
     for (program, line) in &cases {
         let program = program.as_bytes();
@@ -364,7 +393,7 @@ fn refusals(rt: HostRuntime) -> Result<(), Fail> {
 
 #[test]
 fn bad_words(rt: HostRuntime) -> Result<(), Fail> {
-    let cases: [&[&str]; 14] = [
+    let cases: [&[&str]; 16] = [
         &[],
         &["run"],
         &["model", "p"],
@@ -377,7 +406,9 @@ fn bad_words(rt: HostRuntime) -> Result<(), Fail> {
         &["model", "p", "flat:007:5"],
         &["model", "p", "flat:2"],
         &["model", "p", "flat:2:5 "],
-        &["model", "p", "flat:2:5", "--limit", "3"],
+        &["model", "p", "flat:2:5", "--limit", "0"],
+        &["model", "p", "flat:2:5", "--limit", "262145"],
+        &["check", "p", "--limit", "3"],
         &["model", "p", "flat:2:5", "--waves", "3"],
     ];
     for words in &cases {
@@ -395,19 +426,21 @@ fn bad_words(rt: HostRuntime) -> Result<(), Fail> {
     Ok(())
 }
 
+// The two turns make two blocks, and the first is a cause of the second: a size of 3.
 #[test]
-fn the_greatest_limit(rt: HostRuntime) -> Result<(), Fail> {
+fn limits(rt: HostRuntime) -> Result<(), Fail> {
     let words = ["model", "--limit", "262144", "p", "flat:2:5"];
     let program = TWO_CHARES.as_bytes();
-    expect(
-        &rt,
-        &words,
-        program,
-        b"",
-        Status::Settled,
-        TWO_CHARES_REPORT,
-        "",
-    )
+    let settled = Status::Settled;
+    expect(&rt, &words, program, b"", settled, TWO_CHARES_REPORT, "")?;
+    let twice = b"chares 1; var i; body { for (i = 0; i < 2; i = i + 1) { serial { } } }";
+    let words = ["model", "p", "flat:1:1", "--limit", "2"];
+    let line = "too long: limit 2\n";
+    expect(&rt, &words, twice, b"", Status::TooLong, "", line)?;
+    let endless = b"chares 1; body { while (1) { serial { } } }";
+    let words = ["model", "p", "flat:1:1", "--limit", "100"];
+    let line = "too long: limit 100\n";
+    expect(&rt, &words, endless, b"", Status::TooLong, "", line)
 }
 
 #[test]
@@ -418,6 +451,8 @@ fn codes(rt: HostRuntime) {
     assert_eq!(rt; Status::BadProgram.code(), 11);
     assert_eq!(rt; Status::CheckFailed.code(), 12);
     assert_eq!(rt; Status::BadMachine.code(), 13);
+    assert_eq!(rt; Status::AmbiguousMatch.code(), 15);
+    assert_eq!(rt; Status::TooLong.code(), 16);
     assert_eq!(rt; Status::TooBig.code(), 18);
     assert_eq!(rt; Status::NoFile.code(), 22);
 }

@@ -8,9 +8,13 @@ use Rattle.bs_top.specs.Seen.{asked_of, said_of}
 use Rattle.bs_top.specs.Step.{Told}
 use Rattle.bs_top.specs.Stops.{stop_for_words}
 use Rattle.bs_top.specs.Words.{asked_by}
+use Rattle.bs_top.proofs.Limits.{limit_of}
 use Rattle.bs_top.proofs.Replying.{asked_is, bad_words, no_words, not_asked}
 use Rattle.bs_top.proofs.Stages.{always, at_stop}
 use Rattle.bs_top.proofs.perform.reply.Goals as goal
+
+pub built-requires : goal.built-requires
+built-requires g c = limit_of (map string_bytes c.args.words.now) c.in_ok-command.command c.in_ok-command.ensures.ok
 
 pub returns-in_err-command-clause-told : goal.returns-in_err-command-clause-told
 returns-in_err-command-clause-told g c =
@@ -22,14 +26,14 @@ returns-in_err-command-clause-told g c =
 pub returns-in-Some-Check-clause-told : goal.returns-in-Some-Check-clause-told
 returns-in-Some-Check-clause-told g c =
     let words = map string_bytes c.args.words.now in
-    let is = asked_is (command_in words) c.in_ok-command.command c.built.result c.in-Some-Check.field-0 c.in_ok-command.ensures.ok c.built.ensures c.in-Some-Check.is in
+    let is = asked_is (command_in words) c.in_ok-command.command c.built.result c.in-Some-Check.field-0 c.in_ok-command.ensures.ok c.built.ensures.value c.in-Some-Check.is in
     subst (λ q. IfSome (g.D.Desk.world c.args.desk.now).files (λ files. Told said_of (reply_to files q) c.check_text.result))
     (sym (is ∙ ap (λ a. Some (asked_of a)) c.in-Some-Check.field-0-is)) c.check_text.ensures.told
 
 pub returns-in-Some-Model-clause-told : goal.returns-in-Some-Model-clause-told
 returns-in-Some-Model-clause-told g c =
     let words = map string_bytes c.args.words.now in
-    let is = asked_is (command_in words) c.in_ok-command.command c.built.result c.in-Some-Model.field-0 c.in_ok-command.ensures.ok c.built.ensures c.in-Some-Model.is in
+    let is = asked_is (command_in words) c.in_ok-command.command c.built.result c.in-Some-Model.field-0 c.in_ok-command.ensures.ok c.built.ensures.value c.in-Some-Model.is in
     subst (λ q. IfSome (g.D.Desk.world c.args.desk.now).files (λ files. Told said_of (reply_to files q) c.model.result))
     (sym (is ∙ ap (λ a. Some (asked_of a)) c.in-Some-Model.field-0-is)) c.model.ensures.told
 
@@ -37,4 +41,4 @@ pub returns-clause-told : goal.returns-clause-told
 returns-clause-told g c =
     let words = map string_bytes c.args.words.now in
     subst (λ q. IfSome (g.D.Desk.world c.args.desk.now).files (λ files. Told said_of (reply_to files q) (Err (Refused fault.BadWords))))
-    (sym (not_asked (command_in words) c.in_ok-command.command c.built.result c.in_ok-command.ensures.ok c.built.ensures c.in-None.is)) (always (g.D.Desk.world c.args.desk.now).files no_words)
+    (sym (not_asked (command_in words) c.in_ok-command.command c.built.result c.in_ok-command.ensures.ok c.built.ensures.value c.in-None.is)) (always (g.D.Desk.world c.args.desk.now).files no_words)

@@ -15,8 +15,8 @@ returns-in_err-accepted-clause-told g c =
     let name = c.args.name.now in
     let word = word_of c.args.word in
     each old old _ _ refl (λ files h.
-    at_stop (Told said_of (reply_to files (Some (model name word)))) c.in_err-accepted.field-0.0 c.from_residual.result c.from_residual.ensures.1
-    (not_accepted files name (model name word) c.in_err-accepted.field-0.0 refl h)) c.in_err-accepted.ensures.told
+    at_stop (Told said_of (reply_to files (Some (model name word c.args.limit)))) c.in_err-accepted.field-0.0 c.from_residual.result c.from_residual.ensures.1
+    (not_accepted files name (model name word c.args.limit) c.in_err-accepted.field-0.0 refl h)) c.in_err-accepted.ensures.told
 
 pub returns-in_err-machine-clause-told : goal.returns-in_err-machine-clause-told
 returns-in_err-machine-clause-told g c =
@@ -25,8 +25,8 @@ returns-in_err-machine-clause-told g c =
     let name = c.args.name.now in
     let word = word_of c.args.word in
     each_two old mid _ _ _ (ap (λ (o : Outside). o.files) c.in_ok-accepted.ensures.reading) (λ files h k.
-    at_stop (Told said_of (reply_to files (Some (model name word)))) c.in_err-machine.field-0.0 c.from_residual-in_err-machine.result c.from_residual-in_err-machine.ensures.1
-    (no_machine files name c.in_ok-accepted.accepted.program h word c.in_err-machine.field-0.0 k)) c.in_ok-accepted.ensures.told c.in_err-machine.ensures.told
+    at_stop (Told said_of (reply_to files (Some (model name word c.args.limit)))) c.in_err-machine.field-0.0 c.from_residual-in_err-machine.result c.from_residual-in_err-machine.ensures.1
+    (no_machine files name c.in_ok-accepted.accepted.program h word c.args.limit c.in_err-machine.field-0.0 k)) c.in_ok-accepted.ensures.told c.in_err-machine.ensures.told
 
 pub returns-clause-told : goal.returns-clause-told
 returns-clause-told g c =
@@ -34,5 +34,5 @@ returns-clause-told g c =
     let mid = (g.D.Desk.world c.accepted.new.desk).files in
     let m = machine_view c.in_ok-machine.machine in
     each_two old mid _ _ _ (ap (λ (o : Outside). o.files) c.in_ok-accepted.ensures.reading) (λ files h k.
-    on_machine files c.args.name.now c.in_ok-accepted.accepted.program h (word_of c.args.word) m c.simulate.result k
-    c.simulate.ensures.told) c.in_ok-accepted.ensures.told c.in_ok-machine.ensures.told
+    on_machine files c.args.name.now c.in_ok-accepted.accepted.program h (word_of c.args.word) c.args.limit m c.run.result k
+    c.run.ensures.told) c.in_ok-accepted.ensures.told c.in_ok-machine.ensures.told

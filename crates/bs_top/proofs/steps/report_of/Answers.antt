@@ -1,9 +1,5 @@
-use Rattle.std.proofs.Common.{refl, ap, ◌∙◌}
-use Rattle.bs_tree.specs.declared.tree.Program.{Program}
+use Rattle.std.proofs.Common.{refl}
 use Rattle.bs_top.proofs.steps.report_of.Goals as goal
-
-pub run-requires-clause-chares : goal.run-requires-clause-chares
-run-requires-clause-chares c = c.requires.chares ∙ ap (λ (q : Program). q.chares) c.requires.small.is
 
 pub returns : goal.returns
 returns c = record {

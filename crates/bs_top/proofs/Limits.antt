@@ -1,0 +1,61 @@
+-- The limit of a command is from 1 to 262,144.
+use Rattle.std.proofs.Common.{◌≡◌, ◌≤◌, ℕ, List, Bool, true, false, Option, Some, None, Result, Ok, Err, refl, sym, ap, subst, arith, nat_le, if◌then◌else◌}
+use Rattle.std.proofs.lemmas.Bool.Decides.{nat_tests}
+use Rattle.std.specs.Prelude.{IfOk, ◌&&◌, ◌==◌, not, is_some}
+use Rattle.std.specs.Option.{option_and_then}
+use Rattle.bs_num.specs.Decimal.{number_in}
+use Rattle.bs_num.specs.declared.fault.NumFault.{NumFault}
+use Rattle.bs_num.proofs.RoundTrip.{number_most}
+use Rattle.bs_words.specs.Command.{command_of, number_if, number_or, numbers_of, settings_fit}
+use Rattle.bs_words.specs.Parts.{command_in, reading}
+use Rattle.bs_words.specs.Roles.{are_in_roles, at_least, number_from}
+use Rattle.bs_words.specs.Texts.{Texts}
+use Rattle.bs_words.specs.Verbs.{roles_of, verb_of}
+use Rattle.bs_words.specs.declared.command.Command.{Command}
+use Rattle.bs_words.specs.declared.verb.Verb.{Verb}
+use Rattle.bs_top.specs.Words.{IsLimit}
+
+-- what went before something that is there
+given : {A B : Type 0} (o : Option A) (f : A → Option B) (b : B) → option_and_then f o ≡ Some b → (a : A) × (o ≡ Some a) × (f a ≡ Some b)
+given None f b e = absurd (cc)
+given (Some a) f b e = (a, refl, e)
+
+then_is : {A : Type 0} (t : Bool) (o : Option A) (a : A) → (if t then o else None) ≡ Some a → o ≡ Some a
+then_is true o a e = e
+then_is false o a e = absurd (cc)
+
+else_is : {A : Type 0} (t : Bool) (o : Option A) (a : A) → (if t then None else o) ≡ Some a → o ≡ Some a
+else_is true o a e = absurd (cc)
+else_is false o a e = e
+
+same : {A : Type 0} (a b : A) → Some a ≡ Some b → a ≡ b
+same a b e = cc
+
+least : (n m : ℕ) → (if nat_le 1 m then Some m else None) ≡ Some n → 1 ≤ m
+least n m e = grind (arith, nat_tests, e)
+
+from_least : (r : Result ℕ NumFault) (n : ℕ) → IfOk r (λ m. m ≤ 262144) → at_least 1 r ≡ Some n → IsLimit n
+from_least (Ok m) n most e = subst IsLimit (same m n (then_is (nat_le 1 m) (Some m) n e)) (least n m e, most)
+from_least (Err why) n most e = absurd (cc)
+
+of_number : (text : Option (List ℕ)) (n : ℕ) → number_or 262144 1 262144 text ≡ Some n → IsLimit n
+of_number None n e = subst IsLimit (same 262144 n e) (omega arith, omega arith)
+of_number (Some text) n e = from_least (number_in 262144 text) n (number_most 262144 text) e
+
+-- what holds of a value that is there
+holds_of : {A : Type 0} (b a : A) (P : A → Type 0) → Some a ≡ Some b → P a → P b
+holds_of b a P e h = subst P (same a b e) h
+
+of_command : (texts : Texts) (command : Command) → command_of texts ≡ Some command → IsLimit command.limit
+of_command texts command e =
+    let verb = given (verb_of texts.command) _ command e in
+    let fit = then_is (are_in_roles (roles_of verb.0) texts.names && settings_fit verb.0 texts) _ command verb.2 in
+    let numbers = given (numbers_of texts) _ command fit in
+    let limit = given (number_or 262144 1 262144 texts.limit) _ numbers.0 numbers.1 in
+    let workers = given (number_or 1 1 64 texts.workers) _ numbers.0 limit.2 in
+    let waves = given (number_if 1 1099511627776 texts.waves) _ numbers.0 workers.2 in
+    let is = else_is _ _ numbers.0 waves.2 in
+    holds_of command _ (λ c. IsLimit c.limit) numbers.2 (holds_of numbers.0 _ (λ n. IsLimit n.limit) is (of_number texts.limit limit.0 limit.1))
+
+pub limit_of : (words : List (List ℕ)) (command : Command) → command_in words ≡ Some command → IsLimit command.limit
+limit_of words command e = let texts = given (reading words) command_of command e in of_command texts.0 command texts.2

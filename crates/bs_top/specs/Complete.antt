@@ -1,0 +1,63 @@
+-- Files that hold all that a command needs, and what it then comes to.
+use Rattle.std.specs.Prelude.{◌≡◌, ◌≤◌, ◌⊎◌, ℕ, IsTrue, List, length, Option, Some, None, Ok}
+use Rattle.std.specs.FinMap as map
+use Rattle.bs_desk.specs.Outside.{Outside, Files}
+use Rattle.bs_check.specs.Refusal.{refusal}
+use Rattle.bs_log.specs.declared.history.History.{History}
+use Rattle.bs_log.specs.declared.outcome.End.TheVariants.{Settled}
+use Rattle.bs_machine.specs.File.{machine_in}
+use Rattle.bs_machine.specs.Machine.{MachineOf, flat_in}
+use Rattle.bs_net.specs.Home.{has_length}
+use Rattle.bs_parse.specs.Text.{Spells}
+use Rattle.bs_print.specs.Canonical.{text_of}
+use Rattle.bs_semantics.specs.Verdict.{IsVerdict, clean}
+use Rattle.bs_tree.specs.declared.tree.Program.{Program}
+use Rattle.bs_top.specs.declared.status.Status.{Status}
+use Rattle.bs_top.specs.declared.status.Status.TheVariants as status
+use Rattle.bs_top.specs.Answer.{Answer, IsReport, answer_of, file_limit}
+use Rattle.bs_top.specs.Performs.{WritesAnswer}
+use Rattle.bs_top.specs.Step.{Said}
+use Rattle.bs_top.specs.Words.{MachineWord, flat, file}
+
+-- the file of that name holds these bytes, and no more than a file may have
+pub record HasFile (files : Files) (name bytes : List ℕ) : Type 0 where
+  pub is_there : map.get files name ≡ Some bytes
+  pub is_small : length bytes ≤ file_limit
+
+-- the file of that name holds the text of a program that keeps all rules
+pub record HasProgram (files : Files) (name : List ℕ) (p : Program) : Type 0 where
+  pub text : List ℕ
+  pub is_read : HasFile files name text
+  pub is_spelled : Spells text p
+  pub is_kept : refusal p ≡ None
+
+-- the word gives a machine, by its numbers or by its file
+abbrev pub HasMachine : Files → MachineWord → MachineOf → Type 0
+HasMachine files (flat processors latency) m = flat_in processors latency ≡ Ok m
+HasMachine files (file name) m = (bytes : List ℕ) × HasFile files name bytes × (machine_in bytes ≡ Ok m)
+
+-- there are a program and a machine that fits it, and the program's verdict at the limit is Clean
+pub record CanRun (files : Files) (name : List ℕ) (word : MachineWord) (limit : ℕ) (p : Program) (m : MachineOf) : Type 0 where
+  pub program : HasProgram files name p
+  pub machine : HasMachine files word m
+  pub is_fitting : IsTrue (has_length m.place p.chares)
+  pub is_clean : (histories : List History) × IsVerdict p limit (clean histories)
+
+-- the canonical text of a program
+abbrev pub canonical : Program → Said
+canonical p = record { end = Settled; text = text_of p }
+
+-- the answer is a report of what the serial machine model gives
+abbrev pub IsReported : Program → MachineOf → ℕ → Answer → Type 0
+IsReported p m limit answer = (said : Said) × IsReport p m limit said × (answer ≡ answer_of (Ok said))
+
+-- statuses with which a text isn't written whole
+abbrev pub IsFailure : Status → Type 0
+IsFailure status.ReadFault = Unit {0}
+IsFailure status.WriteFault = Unit {0}
+IsFailure status.Memory = Unit {0}
+IsFailure _ = ⊥
+
+-- the whole answer is written and its status is told, unless the desk refused or memory was wanting
+abbrev pub Ends : (Answer → Type 0) → Outside → Outside → Status → Type 0
+Ends is old new s = IsFailure s ⊎ ((answer : Answer) × is answer × WritesAnswer answer s old new)
