@@ -14,6 +14,8 @@ pub use perform::perform_alone;
 pub use status::Status;
 
 #[cfg(test)]
+mod runs;
+#[cfg(test)]
 mod tables;
 #[cfg(test)]
 mod tests;
