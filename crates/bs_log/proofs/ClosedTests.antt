@@ -58,7 +58,7 @@ key_symm a b = and_alike _ _ _ _ (nat_eq_equiv.symm a.entry b.entry) (int_eq_equ
 message_itself : (m : Message) → one_key m m ≡ true
 message_itself m = both_true _ _ (nat_eq_equiv.refl m.sent.to) (key_itself m.sent.key)
 
-message_symm : (a b : Message) → one_key a b ≡ one_key b a
+pub message_symm : (a b : Message) → one_key a b ≡ one_key b a
 message_symm a b = and_alike _ _ _ _ (nat_eq_equiv.symm a.sent.to b.sent.to) (key_symm a.sent.key b.sent.key)
 
 -- the paths rise

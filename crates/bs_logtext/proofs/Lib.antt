@@ -1,1 +1,6 @@
+mod Asking
+mod Causes
+mod Gathered
 mod Joined
+mod Rows
+mod Whole

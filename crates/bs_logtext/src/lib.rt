@@ -3,8 +3,10 @@
 //! `docs/log.md` shows its lines.
 #![tactic(auto)]
 
+mod laws;
 mod writing;
 
+pub use laws::logs_are_valid;
 pub use writing::write_log;
 
 #[cfg(test)]
