@@ -1,7 +1,6 @@
 -- The causes and the depths of the rows of closed histories.
-use Rattle.std.proofs.Common.{◌≡◌, ◌≤◌, ◌<◌, ◌⊎◌, inl, inr, ℕ, zero, suc, ◌+◌, List, [], ◌∷◌, ◌++◌, Option, Some, None, refl, sym, ap, subst, ◌∙◌, length, map, max, arith}
+use Rattle.std.proofs.Common.{◌≡◌, ◌⊎◌, inl, inr, ℕ, zero, suc, ◌+◌, List, [], ◌∷◌, Some, refl, sym, ap, subst, ◌∙◌, length, map, max, arith}
 use Rattle.std.specs.List.{fold}
-use Rattle.bs_tree.specs.declared.tree.Path.{Path}
 use Rattle.bs_log.specs.declared.history.Sent.{Sent}
 use Rattle.bs_log.specs.declared.history.Origin.{Origin}
 use Rattle.bs_log.specs.declared.history.Message.{Message}
@@ -10,7 +9,7 @@ use Rattle.bs_log.specs.declared.history.History.{History}
 use Rattle.bs_log.specs.declared.log.MailRef.{MailRef}
 use Rattle.bs_log.specs.declared.log.Row.{Row}
 use Rattle.bs_log.specs.declared.log.Log.{Log}
-use Rattle.bs_log.specs.ClosedTest.{Mem, IsBelow, Rising, Numbered, SentTo, IsSound, LooksClosed}
+use Rattle.bs_log.specs.ClosedTest.{Mem, IsBelow, Rising, Numbered, SentTo, LooksClosed}
 use Rattle.bs_log.specs.Collected.{number_of, mail_ref, row_of, rows_from, traps_from, waits_from}
 use Rattle.bs_log.specs.Linked.{IsAt, HasBlock}
 use Rattle.bs_log.specs.Valid.{numbered, Holds, row_depth, deepest, IsBlockCause, IsMailCause}
@@ -21,7 +20,7 @@ use Rattle.bs_semantics.specs.Run.{greatest}
 use Rattle.bs_semantics.specs.Rounds as rounds
 use Rattle.bs_semantics.specs.Orderly as orderly
 use Rattle.bs_semantics.specs.Orderly.{EachRestsOn}
-use Rattle.bs_logtext.proofs.Rows.{At, at_member, numbered_at, row_is}
+use Rattle.bs_logtext.proofs.Rows.{At, numbered_at, row_is}
 
 -- the log of histories, with its parts in sight
 abbrev pub log_here : List History → ℕ → Log
@@ -185,9 +184,9 @@ module _ (hs : List History) (looks : LooksClosed hs) where
     depth_is entries x i k =
         let rows = rows_from hs 0 hs in
         let blocks = greatest_fold (λ n. row_depth (numbered rows n)) (λ (b : Block). number_of hs c b.path) (λ b. b.depth) k.causes 0
-            (λ b m. ap row_depth (row_here b (k.known b m).0) ∙ row_facts_depth hs c b) in
+        (λ b m. ap row_depth (row_here b (k.known b m).0) ∙ row_facts_depth hs c b) in
         let same = ap (λ ns. fold (λ d n. max d (row_depth (numbered rows n))) 0 ns) (ap (map (number_of hs c)) k.after ∙ map_twice (number_of hs c) (λ (b : Block). b.path) k.causes) in
         let mails = greatest_fold (λ (m : MailRef). row_depth (numbered rows m.row)) (mail_ref hs) (λ o. o.depth) x.mail (fold (λ d n. max d (row_depth (numbered rows n))) 0 (map (number_of hs c) x.after))
-            (λ o m. mail_depth c o ((sound_here hs looks.sound c h t).mail x i o m)) in
+        (λ o m. mail_depth c o ((sound_here hs looks.sound c h t).mail x i o m)) in
         let own = k.depth in
         omega (arith, blocks, same, mails, own)

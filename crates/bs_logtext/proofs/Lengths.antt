@@ -1,5 +1,5 @@
 -- The text of a valid log is small.
-use Rattle.std.proofs.Common.{◌≡◌, ◌≤◌, ◌<◌, ◌⊎◌, inl, inr, ℕ, zero, suc, ◌+◌, ◌-◌, ◌*◌, ◌^◌, ◌==◌, ℤ, pos, negsuc, Bool, true, false, if◌then◌else◌, List, [], ◌∷◌, ◌++◌, Option, Some, None, refl, sym, ap, subst, ◌∙◌, length, sum_by, slice_get, codes, length-append, arith}
+use Rattle.std.proofs.Common.{◌≡◌, ◌≤◌, ◌<◌, inl, inr, ℕ, zero, suc, ◌+◌, ◌-◌, ◌*◌, ◌^◌, ◌==◌, ℤ, pos, negsuc, Bool, true, false, if◌then◌else◌, List, [], ◌∷◌, ◌++◌, Option, Some, None, refl, sym, ap, length, sum_by, slice_get, codes, length-append, arith}
 use Rattle.std.specs.List.{flat_map}
 use Rattle.std.specs.Fmt.{decimal, signed_decimal}
 use Rattle.std.proofs.lemmas.Fmt.{length-decimal-le, length_signed_le}
@@ -14,7 +14,7 @@ use Rattle.bs_log.specs.declared.log.TrapRow.{TrapRow}
 use Rattle.bs_log.specs.declared.log.WaitRow.{WaitRow}
 use Rattle.bs_log.specs.declared.log.Log.{Log}
 use Rattle.bs_log.specs.ClosedTest.{Mem}
-use Rattle.bs_log.specs.Valid.{IsWord, SendFits, numbered, Holds, RowFits, EachFrom, TrapFits, WaitFits, row_lines, lines_of, IsValid}
+use Rattle.bs_log.specs.Valid.{IsWord, SendFits, numbered, Holds, RowFits, EachFrom, TrapFits, WaitFits, row_lines, IsValid}
 use Rattle.bs_logtext.specs.Text.{counts_line, row_line, after_line, mail_line, emit_line, send_line, row_text, kind_number, trap_line, wait_line, log_text}
 
 digits : (n : ℕ) → n ≤ 2 ^ 32 → length (decimal n) ≤ 10

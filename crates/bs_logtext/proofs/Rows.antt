@@ -1,15 +1,12 @@
 -- The rows of a log by their numbers.
-use Rattle.std.proofs.Common.{◌≡◌, ◌≤◌, ◌<◌, ◌⊎◌, inl, inr, ℕ, zero, suc, ◌+◌, ◌-◌, ◌==◌, Bool, true, false, if◌then◌else◌, List, [], ◌∷◌, ◌++◌, Option, Some, None, refl, sym, ap, subst, ◌∙◌, length, map, get_or, slice_get, arith}
-use Rattle.std.specs.Bool.{Decides}
-use Rattle.std.proofs.lemmas.Bool.{false≢true}
+use Rattle.std.proofs.Common.{◌≡◌, inl, inr, ℕ, zero, suc, ◌+◌, ◌-◌, ◌==◌, Bool, true, false, if◌then◌else◌, List, [], ◌∷◌, ◌++◌, Some, None, refl, sym, ap, subst, ◌∙◌, length, map, get_or, slice_get, arith}
 use Rattle.std.proofs.lemmas.Bool.Decides.{nat_tests}
-use Rattle.bs_tree.specs.declared.tree.Path.{Path}
 use Rattle.bs_log.specs.declared.history.Block.{Block}
 use Rattle.bs_log.specs.declared.history.History.{History}
 use Rattle.bs_log.specs.declared.log.Row.{Row}
-use Rattle.bs_log.specs.Messages.{same_path, is_below}
+use Rattle.bs_log.specs.Messages.{same_path}
 use Rattle.bs_log.specs.Checks.{has_path}
-use Rattle.bs_log.specs.ClosedTest.{Mem, IsBelow, Rising}
+use Rattle.bs_log.specs.ClosedTest.{Mem, Rising}
 use Rattle.bs_log.specs.Collected.{place, number_of, row_of, rows_from}
 use Rattle.bs_log.specs.Linked.{IsAt, firsts_from}
 use Rattle.bs_log.specs.Valid.{numbered, EachFrom}
@@ -102,8 +99,8 @@ each_block P all c [] rest n f g = let e : n + 0 + 1 ≡ n + 1 = omega arith in 
 each_block P all c (b ∷ bs) rest n f g = (
   (let e : n + 0 + 1 ≡ n + 1 = omega arith in subst (λ z. P z (row_of all c b)) e (f 0 b refl)),
   each_block P all c bs rest (n + 1)
-  (λ i x a. let e : n + suc i + 1 ≡ n + 1 + i + 1 = omega arith in subst (λ z. P z (row_of all c x)) e (f (suc i) x a))
-  (let e : n + suc (length bs) + 1 ≡ n + 1 + length bs + 1 = omega arith in subst (λ z. EachFrom P z rest) e g),
+      (λ i x a. let e : n + suc i + 1 ≡ n + 1 + i + 1 = omega arith in subst (λ z. P z (row_of all c x)) e (f (suc i) x a))
+      (let e : n + suc (length bs) + 1 ≡ n + 1 + length bs + 1 = omega arith in subst (λ z. EachFrom P z rest) e g),
 )
 
 each_history : (P : ℕ → Row → Type 0) (all hs : List History) (k n : ℕ) → ((j c : ℕ) (h : History) (i : ℕ) (x : Block) → c ≡ k + j → IsAt hs j h → At h.blocks i x → P (get_or (firsts_from n hs) j 0 + i + 1) (row_of all c x)) → EachFrom P (n + 1) (rows_from all k hs)

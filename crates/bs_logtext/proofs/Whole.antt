@@ -1,17 +1,14 @@
 -- The log of closed histories is valid.
-use Rattle.std.proofs.Common.{◌≡◌, ◌≤◌, ◌<◌, ◌⊎◌, inl, inr, ℕ, zero, suc, ◌+◌, ◌-◌, ◌^◌, ◌==◌, Bool, true, false, ◌&&◌, List, [], ◌∷◌, ◌++◌, refl, sym, ap, ap₂, subst, ◌∙◌, length, map, max, nat_cmp, arith}
+use Rattle.std.proofs.Common.{◌≡◌, ◌≤◌, ◌<◌, inl, inr, ℕ, zero, suc, ◌+◌, ◌==◌, Bool, true, false, ◌&&◌, List, [], ◌∷◌, ◌++◌, refl, sym, ap, subst, ◌∙◌, length, map, nat_cmp, arith}
 use Rattle.std.specs.Ordering.{ordering_then}
 use Rattle.std.specs.Cmp.Lexicographic.{slice_cmp}
 use Rattle.std.specs.declared.cmp.Ordering.{Ordering}
 use Rattle.std.specs.declared.cmp.Ordering.TheVariants.{Less, Equal, Greater}
 use Rattle.std.proofs.lemmas.Map.Lookups.{exact_bytes, exact_unsigned}
 use Rattle.std.proofs.lemmas.Bool.Decides.{nat_tests}
-use Rattle.std.proofs.lemmas.List.Sums.{sum_by-cons}
-use Rattle.bs_tree.specs.declared.tree.Path.{Path}
 use Rattle.bs_tree.specs.declared.tree.Program.{Program}
 use Rattle.bs_tree.specs.Count.{statements_in}
 use Rattle.bs_log.specs.declared.history.Sent.{Sent}
-use Rattle.bs_log.specs.declared.history.Key.{Key}
 use Rattle.bs_log.specs.declared.history.Origin.{Origin}
 use Rattle.bs_log.specs.declared.history.Message.{Message}
 use Rattle.bs_log.specs.declared.history.Block.{Block}
@@ -20,22 +17,19 @@ use Rattle.bs_log.specs.declared.history.WaitAt.{WaitAt}
 use Rattle.bs_log.specs.declared.history.TrapAt.{TrapAt}
 use Rattle.bs_log.specs.declared.history.History.{History}
 use Rattle.bs_log.specs.declared.log.Row.{Row}
-use Rattle.bs_log.specs.declared.log.MailRef.{MailRef}
 use Rattle.bs_log.specs.declared.log.TrapRow.{TrapRow}
 use Rattle.bs_log.specs.declared.log.WaitRow.{WaitRow}
-use Rattle.bs_log.specs.Size.{size_all}
-use Rattle.bs_log.specs.Messages.{same_key, is_for, sends_of, sent}
-use Rattle.bs_log.specs.ClosedTest.{Mem, Apart, Each, InOrder, IsBelow, Rising, one_asked, LooksClosed}
+use Rattle.bs_log.specs.Messages.{same_key, sends_of, sent}
+use Rattle.bs_log.specs.ClosedTest.{Mem, Apart, Each, InOrder, IsBelow, one_asked, LooksClosed}
 use Rattle.bs_log.specs.Collected.{number_of, mail_ref, row_of, rows_from, trap_row, traps_from, wait_row, waits_from, log_of}
 use Rattle.bs_log.specs.Linked.{IsAt}
-use Rattle.bs_log.specs.Rising.{IsBefore, CausesRise, RowRises}
-use Rattle.bs_log.specs.Valid.{IsWord, IsFrom, SendFits, RowFits, EachFrom, TrapFits, WaitFits, TrapIsLower, WaitIsUpTo, sends_in, one_wait, is_awaited, RowIsInRange, IsValid, IsMailCause}
+use Rattle.bs_log.specs.Rising.{IsBefore, CausesRise}
+use Rattle.bs_log.specs.Valid.{IsFrom, SendFits, RowFits, TrapFits, WaitFits, TrapIsLower, WaitIsUpTo, one_wait, is_awaited, RowIsInRange, IsValid, IsMailCause}
 use Rattle.bs_log.proofs.ClosedTests.{key_symm, in_front, behind}
 use Rattle.bs_log.proofs.Links.{linked, sound_here}
 use Rattle.bs_log.proofs.Numbers.{at_within}
 use Rattle.bs_log.proofs.Order.{map_member, order_map, rows_rise}
 use Rattle.bs_semantics.specs.Run.{Lookup, history}
-use Rattle.bs_semantics.specs.Growth.{Subsequence}
 use Rattle.bs_semantics.specs.Rounds as rounds
 use Rattle.bs_semantics.specs.Rounds.{Closed, mail_to, from_to, histories}
 use Rattle.bs_semantics.specs.Orderly as orderly
@@ -53,11 +47,11 @@ use Rattle.bs_semantics.proofs.ClosedSets.{passes}
 use Rattle.bs_semantics.proofs.Chains.{closed_shallow}
 use Rattle.bs_semantics.proofs.SortedCauses.{closed_sorted}
 use Rattle.bs_semantics.proofs.LooksClosed.{looks_closed}
-use Rattle.bs_logtext.specs.Declared.{IsKey, AreDeclared}
+use Rattle.bs_logtext.specs.Declared.{AreDeclared}
 use Rattle.bs_logtext.proofs.Asking.{Among, keys_asked, keys_waited, run_waits}
 use Rattle.bs_logtext.proofs.Rows.{each_row}
 use Rattle.bs_logtext.proofs.Causes.{log_here, to_mem, of_mem, Caused, caused, block_cause, mail_cause, depth_is, rising_here}
-use Rattle.bs_logtext.proofs.Gathered.{gather, rows_gather, traps_gather, waits_gather, From, comes_from, gather_order, gather_apart, all_lines, sends_are, sent_apart}
+use Rattle.bs_logtext.proofs.Gathered.{rows_gather, traps_gather, waits_gather, comes_from, gather_order, gather_apart, all_lines, sends_are, sent_apart}
 
 to_order : {A : Type 0} (R : A → A → Type 0) (xs : List A) → orderly.InOrder R xs → InOrder R xs
 to_order R [] h = tt

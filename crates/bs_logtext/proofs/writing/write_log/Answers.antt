@@ -1,4 +1,4 @@
-use Rattle.std.proofs.Common.{◌≡◌, ◌∙◌, ap, ◌++◌, string_bytes, codes}
+use Rattle.std.proofs.Common.{◌∙◌, ap, ◌++◌, string_bytes, codes}
 use Rattle.std.specs.List.{flat_map}
 use Rattle.bs_logtext.specs.Text.{log_text, counts_line, row_text, trap_line, wait_line}
 use Rattle.bs_logtext.proofs.Joined.{joined}
