@@ -42,23 +42,23 @@ same_origin_is a b = Decides-like _ whole parts (Decides-and _ _ (Decides-eqb a.
     parts : a ≡ b → (a.chare ≡ b.chare) × ((a.path ≡ b.path) × ((a.index ≡ b.index) × (a.depth ≡ b.depth)))
     parts e = (ap (λ o. o.chare) e, (ap (λ o. o.path) e, (ap (λ o. o.index) e, ap (λ o. o.depth) e)))
 
-both_true : (x y : Bool) → x ≡ true → y ≡ true → (x && y) ≡ true
+pub both_true : (x y : Bool) → x ≡ true → y ≡ true → (x && y) ≡ true
 both_true true y e f = f
 both_true false y e f = absurd (false≢true e)
 
-and_alike : (x x' y y' : Bool) → x ≡ x' → y ≡ y' → (x && y) ≡ (x' && y')
+pub and_alike : (x x' y y' : Bool) → x ≡ x' → y ≡ y' → (x && y) ≡ (x' && y')
 and_alike x x' y y' e f = λ j. e j && f j
 
-key_itself : (k : Key) → same_key k k ≡ true
+pub key_itself : (k : Key) → same_key k k ≡ true
 key_itself k = both_true _ _ (nat_eq_equiv.refl k.entry) (int_eq_equiv.refl k.reference)
 
-key_symm : (a b : Key) → same_key a b ≡ same_key b a
+pub key_symm : (a b : Key) → same_key a b ≡ same_key b a
 key_symm a b = and_alike _ _ _ _ (nat_eq_equiv.symm a.entry b.entry) (int_eq_equiv.symm a.reference b.reference)
 
 message_itself : (m : Message) → one_key m m ≡ true
 message_itself m = both_true _ _ (nat_eq_equiv.refl m.sent.to) (key_itself m.sent.key)
 
-message_symm : (a b : Message) → one_key a b ≡ one_key b a
+pub message_symm : (a b : Message) → one_key a b ≡ one_key b a
 message_symm a b = and_alike _ _ _ _ (nat_eq_equiv.symm a.sent.to b.sent.to) (key_symm a.sent.key b.sent.key)
 
 -- the paths rise
@@ -116,12 +116,12 @@ signed_is c x k (m ∷ ms) = Decides-and (is_signed c x k m) (are_signed c x (k 
 
 -- what is sent
 
-in_front : {X : Type 0} (m : X) (xs ys : List X) → Mem m xs → Mem m (xs ++ ys)
+pub in_front : {X : Type 0} (m : X) (xs ys : List X) → Mem m xs → Mem m (xs ++ ys)
 in_front m [] ys i = absurd i
 in_front m (x ∷ xs) ys (inl e) = inl e
 in_front m (x ∷ xs) ys (inr i) = inr (in_front m xs ys i)
 
-behind : {X : Type 0} (m : X) (xs ys : List X) → Mem m ys → Mem m (xs ++ ys)
+pub behind : {X : Type 0} (m : X) (xs ys : List X) → Mem m ys → Mem m (xs ++ ys)
 behind m [] ys i = i
 behind m (x ∷ xs) ys i = inr (behind m xs ys i)
 

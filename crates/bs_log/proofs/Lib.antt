@@ -3,3 +3,5 @@ pub mod Decided
 pub mod Links
 pub mod Numbers
 pub mod Order
+pub mod Chains
+pub mod ValidTests

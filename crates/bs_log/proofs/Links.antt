@@ -28,7 +28,7 @@ few_blocks hs h =
 
 -- a history among others
 
-place_of_member : (xs : List History) (h : History) → Mem h xs → (j : ℕ) × IsAt xs j h
+pub place_of_member : (xs : List History) (h : History) → Mem h xs → (j : ℕ) × IsAt xs j h
 place_of_member [] h i = absurd i
 place_of_member (x ∷ xs) h (inl e) = (0, sym e)
 place_of_member (x ∷ xs) h (inr i) = let r = place_of_member xs h i in (suc r.0, r.1)
@@ -40,7 +40,7 @@ sound_at all (x ∷ xs) k zero c h q s i =
     subst (λ z. IsSound all c z) i (subst (λ z. IsSound all z x) e s.0)
 sound_at all (x ∷ xs) k (suc j) c h q s i = sound_at all xs (k + 1) j c h (omega arith) s.1 i
 
-has_member : (bs : List Block) (b : Block) (q : Path) → Mem b bs → b.path ≡ q → has_path bs q ≡ true
+pub has_member : (bs : List Block) (b : Block) (q : Path) → Mem b bs → b.path ≡ q → has_path bs q ≡ true
 has_member bs b q m e = (any_some (λ x. same_path x.path q) (λ x. x.path ≡ q) (λ x. same_path_is x.path q) bs).1 (record { one = b; is_in = m; holds = e })
 
 cause_is_there : (P : Path → Type 0) (xs all : List Block) → CausesBefore P xs → ((q : Path) → P q → has_path all q ≡ true) → ((b : Block) → Mem b xs → Mem b all) → (x : Block) → Mem x xs → (q : Path) → Mem q x.after → has_path all q ≡ true
@@ -58,13 +58,13 @@ signed_by c x k (y ∷ ys) n m (inl e) = (sym (ap (λ (z : Message). z.origin.ch
 signed_by c x k (y ∷ ys) n m (inr i) = signed_by c x (k + 1) ys n.1 m i
 
 module _ (all : List History) (sound : AreSound all 0 all) where
-  sound_here : (c : ℕ) (h : History) → IsAt all c h → IsSound all c h
+  pub sound_here : (c : ℕ) (h : History) → IsAt all c h → IsSound all c h
   sound_here c h i = sound_at all all 0 c c h (omega arith) sound i
 
-  there : (c : ℕ) (h : History) → IsAt all c h → (q : Path) → has_path h.blocks q ≡ true → HasBlock all c q
+  pub there : (c : ℕ) (h : History) → IsAt all c h → (q : Path) → has_path h.blocks q ≡ true → HasBlock all c q
   there c h i q e = record { history = h; is_at = i; rises = (rising_is h.blocks).1 (sound_here c h i).rising; has = e }
 
-  came : (c : ℕ) (o : Origin) → SentTo all c o → HasBlock all o.chare o.path
+  pub came : (c : ℕ) (o : Origin) → SentTo all c o → HasBlock all o.chare o.path
   came c o s =
       let g = its_history all s.message s.is_sent in
       let j = place_of_member all g.one g.is_in in

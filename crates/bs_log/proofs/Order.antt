@@ -48,7 +48,7 @@ place_up (x ∷ xs) p q r e f b = by (same_path x.path p) (same_path x.path q) r
 
 -- among histories
 
-least : (n : ℕ) (hs : List History) (c : ℕ) (h : History) → IsAt hs c h → n ≤ get_or (firsts_from n hs) c 0
+pub least : (n : ℕ) (hs : List History) (c : ℕ) (h : History) → IsAt hs c h → n ≤ get_or (firsts_from n hs) c 0
 least n [] c h i = absurd i
 least n (x ∷ xs) zero h i = omega arith
 least n (x ∷ xs) (suc c) h i = let r = least (n + length x.blocks) xs c h i in omega (arith, r)
@@ -70,7 +70,7 @@ earlier_chare hs c d p q a b l =
     let u = firsts_up 0 hs c d a.history b.history a.is_at b.is_at l in
     omega (arith, m, n, f, u)
 
-earlier_path : (hs : List History) (c : ℕ) (p q : Path) → HasBlock hs c p → HasBlock hs c q → IsBelow p q → number_of hs c p < number_of hs c q
+pub earlier_path : (hs : List History) (c : ℕ) (p q : Path) → HasBlock hs c p → HasBlock hs c q → IsBelow p q → number_of hs c p < number_of hs c q
 earlier_path hs c p q a b l =
     let e = sym (at_index hs c b.history b.history b.is_at) ∙ at_index hs c a.history b.history a.is_at in
     let has = subst (λ (h : History). has_path h.blocks q ≡ true) e b.has in
@@ -88,12 +88,12 @@ earlier_send hs a b i k (inr l) = inr ((λ j. number_of hs (l.0 j) ((l.1).0 j)),
 
 -- the causes of a row
 
-map_member : {A B : Type 0} (f : A → B) (xs : List A) (y : B) → Mem y (map f xs) → SomeOf (λ x. y ≡ f x) xs
+pub map_member : {A B : Type 0} (f : A → B) (xs : List A) (y : B) → Mem y (map f xs) → SomeOf (λ x. y ≡ f x) xs
 map_member f [] y m = absurd m
 map_member f (x ∷ xs) y (inl e) = record { one = x; is_in = inl refl; holds = e }
 map_member f (x ∷ xs) y (inr m) = let s = map_member f xs y m in record { one = s.one; is_in = inr s.is_in; holds = s.holds }
 
-order_map : {A B : Type 0} (R : A → A → Type 0) (S : B → B → Type 0) (f : A → B) (xs : List A) → ((a b : A) → Mem a xs → Mem b xs → R a b → S (f a) (f b)) → InOrder R xs → InOrder S (map f xs)
+pub order_map : {A B : Type 0} (R : A → A → Type 0) (S : B → B → Type 0) (f : A → B) (xs : List A) → ((a b : A) → Mem a xs → Mem b xs → R a b → S (f a) (f b)) → InOrder R xs → InOrder S (map f xs)
 order_map R S f [] k h = tt
 order_map {A} {B} R S f (x ∷ xs) k h = (first, order_map R S f xs (λ a b i j r. k a b (inr i) (inr j) r) h.1)
   where

@@ -14,6 +14,7 @@ mod numbering;
 mod outcome;
 mod rows;
 mod sizes;
+mod validity;
 
 pub use closed::is_closed;
 pub use collected::collect;
@@ -23,6 +24,7 @@ pub use laws::numbers_rise;
 pub use log::{Log, MailRef, Row, TrapRow, WaitRow};
 pub use outcome::{End, OutRow, Outcome};
 pub use sizes::size;
+pub use validity::valid;
 
 #[cfg(test)]
 mod tests;

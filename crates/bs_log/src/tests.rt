@@ -1,7 +1,7 @@
 // Histories that were worked out by hand, and their log.
 use crate::{
     Asked, Block, End, History, Key, Log, MailRef, Message, Origin, Row, Sent, WaitAt, collect,
-    end, is_closed, size,
+    end, is_closed, size, valid,
 };
 use bs_tree::{List, Path};
 use std::alloc::{AllocError, Global};
@@ -114,6 +114,8 @@ fn two_chares_have_four_rows(rt: HostRuntime) -> Result<(), Fail> {
     assert!(rt; closed);
     let log = collect(alloc, &histories, 1)?;
     expect_log(&rt, &log);
+    let is_valid = valid(&log);
+    assert!(rt; is_valid);
     assert_eq!(rt; end(&log), End::Settled);
     Ok(())
 }
@@ -149,5 +151,20 @@ fn a_message_of_nobody_is_not_closed(rt: HostRuntime) -> Result<(), Fail> {
     let alloc = rt.alloc();
     assert!(rt; !is_closed(&[history(alloc, 0, 1)?]));
     assert!(rt; !is_closed(&[]));
+    Ok(())
+}
+
+#[test]
+fn a_log_without_chares_is_not_valid(rt: HostRuntime) -> Result<(), Fail> {
+    let alloc = rt.alloc();
+    let log = Log {
+        chares: 0,
+        entries: 0,
+        rows: List::new(alloc),
+        traps: List::new(alloc),
+        waits: List::new(alloc),
+    };
+    let is_valid = valid(&log);
+    assert!(rt; !is_valid);
     Ok(())
 }

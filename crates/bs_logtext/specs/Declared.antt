@@ -1,0 +1,21 @@
+-- What the program of histories declares, as far as they show it.
+use Rattle.std.specs.Prelude.{ℕ, ℤ, ◌<◌, List}
+use Rattle.bs_log.specs.declared.history.Key.{Key}
+use Rattle.bs_log.specs.declared.history.Message.{Message}
+use Rattle.bs_log.specs.declared.history.Block.{Block}
+use Rattle.bs_log.specs.declared.history.WaitAt.{WaitAt}
+use Rattle.bs_log.specs.declared.history.History.{History}
+use Rattle.bs_log.specs.Messages.{sent}
+use Rattle.bs_log.specs.ClosedTest.{Mem}
+use Rattle.bs_log.specs.Valid.{IsWord}
+
+-- a key of one of the entries, with a reference of 64 bits
+pub record IsKey (entries : ℕ) (k : Key) : Type 0 where
+  pub entry : k.entry < entries
+  pub reference : IsWord k.reference
+
+-- each key that is sent or waited for is of one of the entries, and each value that is emitted has 64 bits
+pub record AreDeclared (entries : ℕ) (hs : List History) : Type 0 where
+  pub sent : (m : Message) → Mem m (sent hs) → IsKey entries m.sent.key
+  pub waited : (h : History) → Mem h hs → (w : WaitAt) → Mem w h.waits → IsKey entries w.key
+  pub emitted : (h : History) → Mem h hs → (x : Block) → Mem x h.blocks → (v : ℤ) → Mem v x.emits → IsWord v

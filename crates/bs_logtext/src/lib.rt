@@ -1,0 +1,13 @@
+//! The text of a log, in which an emulation is kept.
+//!
+//! `docs/log.md` shows its lines.
+#![tactic(auto)]
+
+mod laws;
+mod writing;
+
+pub use laws::{logs_are_valid, texts_are_small};
+pub use writing::write_log;
+
+#[cfg(test)]
+mod tests;
