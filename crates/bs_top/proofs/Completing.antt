@@ -2,7 +2,6 @@
 use Rattle.std.proofs.Common.{◌≡◌, ℕ, List, true, refl, ap, ◌∙◌, inl, inr, Option, Some, Result, Ok, Err}
 use Rattle.bs_desk.specs.Outside.{Outside, Files}
 use Rattle.bs_log.specs.declared.history.History.{History}
-use Rattle.bs_machine.specs.File.{machine_in}
 use Rattle.bs_machine.specs.Machine.{MachineOf}
 use Rattle.bs_net.specs.Home.{has_length}
 use Rattle.bs_parse.specs.TextLaws.{OneProgram, OneFault, NotBoth}
@@ -11,13 +10,13 @@ use Rattle.bs_tree.specs.declared.tree.Program.{Program}
 use Rattle.bs_top.specs.declared.status.Status.{Status}
 use Rattle.bs_top.specs.declared.status.Status.TheVariants as status
 use Rattle.bs_top.specs.declared.stop.Stop.{Stop}
-use Rattle.bs_top.specs.Answer.{Answer, IsAnswer, accepted, answer_of, checked, contents, fits, judged, machine_named, or_bad_machine, program_in, reply_to, run, simulated}
+use Rattle.bs_top.specs.Answer.{Answer, IsAnswer, accepted, answer_of, contents, fits, judged, machine_named, or_bad_machine, program_in, reply_to, run, simulated}
 use Rattle.bs_top.specs.Complete.{CanRun, Ends, HasFile, HasMachine, HasProgram, IsReported, canonical}
 use Rattle.bs_top.specs.Performs.{Answers, WritesAnswer}
 use Rattle.bs_top.specs.Step.{Said, and_then}
 use Rattle.bs_top.specs.Words.{Asked, MachineWord, check, model, flat, file}
 use Rattle.bs_top.proofs.OneAnswer.{OneSerial, OneVerdict, one_accepted, one_fit, one_judged, one_named, one_reply}
-use Rattle.bs_top.proofs.OneStep.{IsOne, past}
+use Rattle.bs_top.proofs.OneStep.{past}
 use Rattle.bs_top.proofs.Reading.{read_whole}
 use Rattle.bs_top.proofs.Simulating.{is_accepted}
 

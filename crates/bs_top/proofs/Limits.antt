@@ -1,18 +1,17 @@
 -- The limit of a command is from 1 to 262,144.
-use Rattle.std.proofs.Common.{◌≡◌, ◌≤◌, ℕ, List, Bool, true, false, Option, Some, None, Result, Ok, Err, refl, sym, ap, subst, arith, nat_le, if◌then◌else◌}
+use Rattle.std.proofs.Common.{◌≡◌, ◌≤◌, ℕ, List, Bool, true, false, Option, Some, None, Result, Ok, Err, refl, subst, arith, nat_le, if◌then◌else◌}
 use Rattle.std.proofs.lemmas.Bool.Decides.{nat_tests}
-use Rattle.std.specs.Prelude.{IfOk, ◌&&◌, ◌==◌, not, is_some}
+use Rattle.std.specs.Prelude.{IfOk, ◌&&◌}
 use Rattle.std.specs.Option.{option_and_then}
 use Rattle.bs_num.specs.Decimal.{number_in}
 use Rattle.bs_num.specs.declared.fault.NumFault.{NumFault}
 use Rattle.bs_num.proofs.RoundTrip.{number_most}
 use Rattle.bs_words.specs.Command.{command_of, number_if, number_or, numbers_of, settings_fit}
 use Rattle.bs_words.specs.Parts.{command_in, reading}
-use Rattle.bs_words.specs.Roles.{are_in_roles, at_least, number_from}
+use Rattle.bs_words.specs.Roles.{are_in_roles, at_least}
 use Rattle.bs_words.specs.Texts.{Texts}
 use Rattle.bs_words.specs.Verbs.{roles_of, verb_of}
 use Rattle.bs_words.specs.declared.command.Command.{Command}
-use Rattle.bs_words.specs.declared.verb.Verb.{Verb}
 use Rattle.bs_top.specs.Words.{IsLimit}
 
 -- what went before something that is there

@@ -1,5 +1,5 @@
 -- The machine that was made is that of its word, and it is fitted where that can be.
-use Rattle.std.proofs.Common.{◌≡◌, ◌≢◌, ℕ, List, ap, ◌∙◌, refl, sym, subst, Bool, true, false, Some, None, Result, Ok, Err, IsTrue, if◌then◌else◌}
+use Rattle.std.proofs.Common.{◌≡◌, ◌≢◌, ℕ, List, ap, ◌∙◌, sym, subst, Bool, true, false, Result, Ok, Err, if◌then◌else◌}
 use Rattle.bs_desk.specs.Outside.{Files}
 use Rattle.bs_machine.specs.File.{machine_in}
 use Rattle.bs_machine.specs.Machine.{MachineOf, flat_in, machine_view}

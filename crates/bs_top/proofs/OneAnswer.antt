@@ -1,5 +1,5 @@
 -- A command has one answer: each of its steps gives one thing at most.
-use Rattle.std.proofs.Common.{◌≡◌, ℕ, List, refl, sym, ap, ◌∙◌, subst, Option, Some, None, Ok, Err, Result}
+use Rattle.std.proofs.Common.{◌≡◌, ℕ, List, refl, sym, ap, ◌∙◌, subst, Option, Some, None, Ok, Err}
 use Rattle.std.specs.FinMap as map
 use Rattle.bs_desk.specs.Outside.{Files}
 use Rattle.bs_check.specs.Refusal.{Broken, IsRefused, refusal}

@@ -1,10 +1,9 @@
 -- What was read of a file is what its contents say.
-use Rattle.std.proofs.Common.{◌≡◌, ◌≤◌, ◌<◌, ℕ, List, length, ap, ◌∙◌, Some, None, Result, Ok, Err, arith, nat_le, Bool, true, false, refl, subst, sym, if◌then◌else◌}
+use Rattle.std.proofs.Common.{◌≡◌, ◌≤◌, ◌<◌, ℕ, List, length, ap, ◌∙◌, Some, None, Ok, Err, arith, nat_le, true, false, refl, subst, sym}
 use Rattle.std.proofs.lemmas.Bool.Decides.{nat_tests}
 use Rattle.std.specs.FinMap as map
 use Rattle.bs_desk.specs.Outside.{Files}
 use Rattle.bs_report.specs.declared.faults.Fault.TheVariants as fault
-use Rattle.bs_top.specs.declared.stop.Stop.{Stop}
 use Rattle.bs_top.specs.declared.stop.Stop.TheVariants.{Refused, NoFile}
 use Rattle.bs_top.specs.Answer.{contents, file_limit, whole}
 

@@ -18,7 +18,6 @@ use Rattle.bs_semantics.specs.Rounds.{CleanAt}
 use Rattle.bs_semantics.specs.Verdict as rounds
 use Rattle.bs_report.specs.declared.faults.Fault.TheVariants as fault
 use Rattle.bs_tree.specs.declared.tree.Program.{Program}
-use Rattle.bs_top.specs.declared.stop.Reply.{Reply}
 use Rattle.bs_top.specs.declared.stop.Stop.{Stop}
 use Rattle.bs_top.specs.declared.stop.Stop.TheVariants.{Refused}
 use Rattle.bs_top.specs.Answer.{IsReport, checked, fits, if_clean, judged, program_in, run, simulated}

@@ -1,13 +1,12 @@
 -- What was written is the answer that its definition gives.
-use Rattle.std.proofs.Common.{◌≡◌, ◌≤◌, ℕ, List, [], length, take, refl, sym, ap, ◌∙◌, subst, inl, inr, Option, Some, None, Result, Ok, Err}
-use Rattle.std.specs.Prelude.{◌⊎◌, IfSome, IsTrue}
+use Rattle.std.proofs.Common.{◌≡◌, ℕ, List, length, take, refl, sym, ap, ◌∙◌, subst, inl, inr, Option, Result, Ok, Err}
+use Rattle.std.specs.Prelude.{◌⊎◌, IsTrue}
 use Rattle.bs_desk.specs.declared.desk.Port.TheVariants as port
 use Rattle.bs_desk.specs.Outside.{Outside, Files, IsReading, Rose, written}
 use Rattle.bs_log.specs.declared.outcome.End.{End}
 use Rattle.bs_log.specs.declared.outcome.End.TheVariants as end
 use Rattle.bs_report.specs.declared.faults.Fault.{Fault}
 use Rattle.bs_report.specs.declared.faults.Fault.TheVariants as fault
-use Rattle.bs_report.specs.Fault.{fault_text}
 use Rattle.bs_top.specs.declared.status.Status.{Status}
 use Rattle.bs_top.specs.declared.status.Status.TheVariants as status
 use Rattle.bs_top.specs.declared.stop.Stop.{Stop}
@@ -17,7 +16,6 @@ use Rattle.bs_top.specs.Step.{Said}
 use Rattle.bs_top.specs.Answer.{Answer, IsAnswer, answer_of, refused, refused_by, reply_to, status_of}
 use Rattle.bs_top.specs.Performs.{Answers, WritesFront, WritesAnswer, Says, IsCutOff, Refuses}
 use Rattle.bs_top.proofs.Kept.{kept_after, kept_reading, kept_silent}
-use Rattle.bs_top.proofs.Stages.{each}
 
 -- a status that comes with an answer's whole text
 abbrev IsWholeStatus : Status → Type 0

@@ -1,5 +1,5 @@
 -- Files that hold all that a command needs, and what it then comes to.
-use Rattle.std.specs.Prelude.{◌≡◌, ◌≤◌, ◌⊎◌, ℕ, IsTrue, List, length, Option, Some, None, Ok}
+use Rattle.std.specs.Prelude.{◌≡◌, ◌≤◌, ◌⊎◌, ℕ, IsTrue, List, length, Some, None, Ok}
 use Rattle.std.specs.FinMap as map
 use Rattle.bs_desk.specs.Outside.{Outside, Files}
 use Rattle.bs_check.specs.Refusal.{refusal}

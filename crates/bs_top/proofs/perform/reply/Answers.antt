@@ -1,4 +1,4 @@
-use Rattle.std.proofs.Common.{map, string_bytes, sym, subst, refl, ap, ◌∙◌, Some, Err}
+use Rattle.std.proofs.Common.{map, string_bytes, sym, subst, ap, ◌∙◌, Some, Err}
 use Rattle.bs_report.specs.declared.faults.Fault.TheVariants as fault
 use Rattle.bs_top.specs.declared.stop.Stop.TheVariants.{Refused}
 use Rattle.std.specs.Prelude.{IfSome}
