@@ -1,5 +1,6 @@
--- In a closed set each depth below a block's depth is some block's, so no depth is above the number of blocks.
-use Rattle.std.proofs.Common.{◌≡◌, ◌≤◌, ◌<◌, ◌⊎◌, inl, inr, ℕ, zero, suc, max, Bool, List, [], ◌∷◌, ◌++◌, Option, Some, None, Ok, refl, sym, ap, subst, ◌∙◌, map, length, arith, le_refl, zero-le}
+-- Where each message of a mail is sent by the histories under it, each depth below a block's depth is some block's, so no
+-- depth is above the number of blocks.
+use Rattle.std.proofs.Common.{◌≡◌, ◌≤◌, ◌<◌, ◌⊎◌, inl, inr, ℕ, zero, suc, max, Bool, List, [], ◌∷◌, ◌++◌, Option, Some, None, Ok, refl, sym, ap, subst, map, length, arith, le_refl, zero-le}
 use Rattle.std.proofs.lemmas.Bool.{cases_lt}
 use Rattle.bs_tree.specs.declared.tree.Program.{Program}
 use Rattle.bs_log.specs.declared.history.Key.{Key}
@@ -12,6 +13,7 @@ use Rattle.bs_semantics.specs.Run.{Lookup, Run, State, Causes, serial, from_end,
 use Rattle.bs_semantics.specs.Rounds.{Mem, mail_to, sent, chares, histories, Closed}
 use Rattle.bs_log.specs.Size.{size_all}
 use Rattle.bs_semantics.specs.Depth.{all_blocks}
+use Rattle.bs_semantics.specs.Starting.{AllIn}
 use Rattle.bs_semantics.proofs.Options.{none_some, some_same}
 use Rattle.bs_semantics.proofs.Members.{mem_left, mem_right, mem_cases, mem_map}
 use Rattle.bs_semantics.proofs.CauseDepths.{union_depth, with_mail_depth, depth_in}
@@ -20,6 +22,7 @@ use Rattle.bs_semantics.proofs.Mails.{found}
 use Rattle.bs_semantics.proofs.Signed.{run_signed}
 use Rattle.bs_semantics.proofs.Sets.{under, from_block}
 use Rattle.bs_semantics.proofs.Sizes.{count_all}
+use Rattle.bs_semantics.proofs.Distinct.{without}
 
 -- no depth, or one that occurs
 abbrev pub Good : (ℕ → Type 0) → ℕ → Type 0
@@ -120,27 +123,6 @@ module _ (D : ℕ → Type 0) where
     run_rest p limit c occ = (list_kept p limit c a a Justified (justified_closed p c) p.body 0 1 [] (start p) (inl refl) occ).blocks
 
 -- a list that holds each number from 1 to d is at least d long
-record Without (x : ℕ) (ns : List ℕ) : Type 0 where
-  rest : List ℕ
-  count : length ns ≡ suc (length rest)
-  others : (y : ℕ) → (y ≡ x → ⊥) → Mem y ns → Mem y rest
-
-without_more : (x n : ℕ) (ns : List ℕ) → Without x ns → Without x (n ∷ ns)
-without_more x n ns w = record { rest = n ∷ w.rest; count = ap suc w.count; others = λ y k m. other y k m }
-  where
-    other : (y : ℕ) → (y ≡ x → ⊥) → Mem y (n ∷ ns) → Mem y (n ∷ w.rest)
-    other y k (inl f) = inl f
-    other y k (inr i) = inr (w.others y k i)
-
-without : (x : ℕ) (ns : List ℕ) → Mem x ns → Without x ns
-without x [] m = absurd m
-without x (n ∷ ns) (inl e) = record { rest = ns; count = refl; others = λ y h m. other y h m }
-  where
-    other : (y : ℕ) → (y ≡ x → ⊥) → Mem y (n ∷ ns) → Mem y ns
-    other y h (inl f) = absurd (h (f ∙ sym e))
-    other y h (inr m) = m
-without x (n ∷ ns) (inr m) = without_more x n ns (without x ns m)
-
 pub long : (d : ℕ) (ns : List ℕ) → ((e : ℕ) → e < d → Mem (suc e) ns) → d ≤ length ns
 long zero ns h = zero-le
 long (suc d) ns h =
@@ -172,13 +154,13 @@ module _ (p : Program) (limit : ℕ) where
       by_side (inl i) g = record { chare = c; is_chare = inl refl; is_block = i }
       by_side (inr i) g = let h = g i in record { chare = h.chare; is_chare = inr h.is_chare; is_block = h.is_block }
 
-  module _ (all : List Message) (fixed : all ≡ sent (histories p limit all)) where
+  module _ (all : List Message) (are_sent : AllIn all (sent (histories p limit all))) where
     abbrev Occurs : ℕ → Type 0
     Occurs j = (x : Block) × Mem x (all_blocks (histories p limit all)) × (x.depth ≡ j)
 
     known : (c : ℕ) (k : Key) (m : Message) → mail_to all c k ≡ Some m → Occurs m.origin.depth
     known c k m e =
-        let h = from_block p limit (mail_to all) (chares p) m (subst (Mem m) fixed (found all c k m e).0) in
+        let h = from_block p limit (mail_to all) (chares p) m (are_sent m (found all c k m e).0) in
         (h.block, in_all (mail_to all) (chares p) h.chare h.block h.is_chare h.is_block, sym ((run_signed p limit h.chare (mail_to all h.chare) h.block h.is_block).depth m h.is_sent))
 
     rests : (x : Block) → Mem x (all_blocks (histories p limit all)) → Rests Occurs x.depth
@@ -216,16 +198,19 @@ module _ (p : Program) (limit : ℕ) where
         let m = length_map (all_blocks (histories p limit all)) in
         omega (arith, is, n, m)
 
-    pub low : size_all (histories p limit all) ≤ limit → (m : Message) → Mem m all → m.origin.depth ≤ limit
+    pub low : size_all (histories p limit all) ≤ limit → (m : Message) → Mem m (sent (histories p limit all)) → m.origin.depth ≤ limit
     low l m i =
-        let h = from_block p limit (mail_to all) (chares p) m (subst (Mem m) fixed i) in
+        let h = from_block p limit (mail_to all) (chares p) m i in
         let one = (run_signed p limit h.chare (mail_to all h.chare) h.block h.is_block).depth m h.is_sent in
         let two = shallow h.block (in_all (mail_to all) (chares p) h.chare h.block h.is_chare h.is_block) in
         let three = count_all (histories p limit all) in
         omega (arith, l, one, two, three)
 
+  all_sent : (hs : List History) → Closed p limit hs → AllIn (sent hs) (sent (histories p limit (sent hs)))
+  all_sent hs h m i = subst (λ hs. Mem m (sent hs)) h.same i
+
   pub closed_shallow : (hs : List History) → Closed p limit hs → (x : Block) → Mem x (all_blocks hs) → x.depth ≤ length (all_blocks hs)
-  closed_shallow hs h = subst (λ hs. (x : Block) → Mem x (all_blocks hs) → x.depth ≤ length (all_blocks hs)) (sym h.same) (shallow (sent hs) (ap sent h.same))
+  closed_shallow hs h = subst (λ hs. (x : Block) → Mem x (all_blocks hs) → x.depth ≤ length (all_blocks hs)) (sym h.same) (shallow (sent hs) (all_sent hs h))
 
   pub closed_low : (hs : List History) → Closed p limit hs → (m : Message) → Mem m (sent hs) → m.origin.depth ≤ limit
-  closed_low hs h = low (sent hs) (ap sent h.same) (subst (λ hs. size_all hs ≤ limit) h.same h.size)
+  closed_low hs h m i = low (sent hs) (all_sent hs h) (subst (λ hs. size_all hs ≤ limit) h.same h.size) m (all_sent hs h m i)

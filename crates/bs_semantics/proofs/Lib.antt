@@ -11,6 +11,7 @@ pub mod Mails
 pub mod Signed
 pub mod Sets
 pub mod Confluence
+pub mod Distinct
 pub mod Chains
 pub mod Ambiguous
 pub mod Verdicts
@@ -22,9 +23,13 @@ pub mod Numbering
 pub mod Rests
 pub mod SortedCauses
 pub mod ClosedSets
+pub mod LooksClosed
 pub mod Find
 pub mod Starting
 pub mod Reached
 pub mod Unrolled
 pub mod Examples
 pub mod OneSerial
+pub mod Least
+pub mod Deciding
+pub mod SomeSerial

@@ -113,10 +113,10 @@ module _ (p : Program) (limit : ℕ) (m : Machine) where
 
 -- ---- the blocks of histories in order
 
-abbrev placed_cmp : Placed → Placed → Ordering
+abbrev pub placed_cmp : Placed → Placed → Ordering
 placed_cmp a b = ordering_then (nat_cmp a.chare b.chare) (slice_cmp nat_cmp a.block.path.0 b.block.path.0)
 
-placed_total : IsTotalOrder placed_cmp
+pub placed_total : IsTotalOrder placed_cmp
 placed_total = then_total (on_total (λ (a : Placed). a.chare) nat_cmp_total) (on_total (λ (a : Placed). a.block.path.0) nat_list_cmp_total)
 
 least_of : (c n d : ℕ) → Mem d (from_to c n) → c ≤ d
@@ -125,9 +125,9 @@ least_of c (suc n) d (inl e) = omega (arith, e)
 least_of c (suc n) d (inr i) = let l = least_of (c + 1) n d i in omega (arith, l)
 
 module _ (p : Program) (limit : ℕ) (f : ℕ → Lookup) where
-  record IsPlaced (c n : ℕ) (a : Placed) : Type 0 where
-    chare : Mem a.chare (from_to c n)
-    block : Mem a.block (history p limit a.chare (f a.chare)).blocks
+  pub record IsPlaced (c n : ℕ) (a : Placed) : Type 0 where
+    pub chare : Mem a.chare (from_to c n)
+    pub block : Mem a.block (history p limit a.chare (f a.chare)).blocks
 
   abbrev blocks_at : ℕ → List Placed
   blocks_at c = map (λ x. record { chare = c; block = x }) (history p limit c (f c)).blocks
@@ -137,7 +137,7 @@ module _ (p : Program) (limit : ℕ) (f : ℕ → Lookup) where
       let m = map_of (λ x. record { chare = c; block = x }) (history p limit c (f c)).blocks a i in
       (ap (λ a. a.chare) m.is, subst (λ x. Mem x (history p limit c (f c)).blocks) (ap (λ a. a.block) (sym m.is)) m.is_in)
 
-  is_placed : (n c : ℕ) (a : Placed) → Mem a (blocks_from c (under p limit f (from_to c n))) → IsPlaced c n a
+  pub is_placed : (n c : ℕ) (a : Placed) → Mem a (blocks_from c (under p limit f (from_to c n))) → IsPlaced c n a
   is_placed zero c a i = absurd i
   is_placed (suc n) c a i = by_side (mem_cases a (blocks_at c) (blocks_from (c + 1) (under p limit f (from_to (c + 1) n))) i) (is_placed n (c + 1) a)
     where
@@ -145,7 +145,7 @@ module _ (p : Program) (limit : ℕ) (f : ℕ → Lookup) where
       by_side (inl j) g = let o = at_one c a j in record { chare = inl o.0; block = subst (λ c. Mem a.block (history p limit c (f c)).blocks) (sym o.0) o.1 }
       by_side (inr j) g = let h = g j in record { chare = inr h.chare; block = h.block }
 
-  place_in : (n c : ℕ) (a : Placed) → Mem a.chare (from_to c n) → Mem a.block (history p limit a.chare (f a.chare)).blocks → Mem a (blocks_from c (under p limit f (from_to c n)))
+  pub place_in : (n c : ℕ) (a : Placed) → Mem a.chare (from_to c n) → Mem a.block (history p limit a.chare (f a.chare)).blocks → Mem a (blocks_from c (under p limit f (from_to c n)))
   place_in zero c a i j = absurd i
   place_in (suc n) c a (inl e) j =
       mem_left a (blocks_at c) (blocks_from (c + 1) (under p limit f (from_to (c + 1) n)))
@@ -171,18 +171,20 @@ module _ (p : Program) (limit : ℕ) (m : Machine) (bs : List Started) (r : IsRe
   abbrev in_order : List Started
   in_order = put_all (started_cmp m) bs []
 
-  started_total : IsTotalOrder (started_cmp m)
+  pub started_total : IsTotalOrder (started_cmp m)
   started_total = then_total (on_total (λ (b : Started). b.chare) nat_cmp_total) (on_total (λ (b : Started). b.block.path.0) nat_list_cmp_total)
 
   started_rise : InOrder (λ a b. placed_cmp a b ≡ Less) (map placed in_order)
   started_rise = in_order_map placed (λ a b. started_cmp m a b ≡ Less) (λ a b. placed_cmp a b ≡ Less) (λ a b e. e) in_order (all_sorted (started_cmp m) started_total bs)
 
   -- each started block is a block of the histories, in its place
+  pub in_place : (b : Started) → Mem b bs → Mem (placed b) (blocks_from 0 (histories_at p limit bs))
+  in_place b i = let k = reached_blocks p limit m bs r b i in place_in p limit (mail_to (messages bs)) p.chares 0 (placed b) k.0 k.1
+
   is_block : (a : Placed) → Mem a (map placed in_order) → Mem a (blocks_from 0 (histories_at p limit bs))
   is_block a i =
       let o = map_of placed in_order a i in
-      let b = reached_blocks p limit m bs r o.from (from_all (started_cmp m) started_total bs o.from o.is_in) in
-      subst (λ a. Mem a (blocks_from 0 (histories_at p limit bs))) (sym o.is) (place_in p limit (mail_to (messages bs)) p.chares 0 (placed o.from) b.0 b.1)
+      subst (λ a. Mem a (blocks_from 0 (histories_at p limit bs))) (sym o.is) (in_place o.from (from_all (started_cmp m) started_total bs o.from o.is_in))
 
   -- and where none can be started, each block of the histories is started
   is_begun : NoneEnabled p limit bs → (a : Placed) → Mem a (blocks_from 0 (histories_at p limit bs)) → Mem a (map placed in_order)

@@ -57,11 +57,15 @@ pub fn confluence()
     ensures only { (p : Program) (limit n : ℕ) (hs : List History) → CleanAt p limit n → Closed p limit hs → hs ≡ round p limit n }
 {}
 
+ghost use Rattle.bs_semantics.specs.Starting.{AllIn};
+
 /// In closed histories no block is deeper than there are blocks, since each depth below a block's own
-/// is the depth of some block; and no message is deeper than the limit.
+/// is the depth of some block (`blocks`); and no message is deeper than the limit (`messages`). So it
+/// is under every mail that holds nothing but what the histories under it send (`rounds`).
 pub fn chains()
     ensures blocks { (p : Program) (limit : ℕ) (hs : List History) → Closed p limit hs → IsShallow hs }
     ensures messages { (p : Program) (limit : ℕ) (hs : List History) → Closed p limit hs → (m : Message) → Mem m (sent hs) → m.origin.depth ≤ limit }
+    ensures rounds { (p : Program) (limit : ℕ) (ms : List Message) → AllIn ms (sent (histories p limit ms)) → size_all (histories p limit ms) ≤ limit → (m : Message) → Mem m (sent (histories p limit ms)) → m.origin.depth ≤ limit }
 {}
 
 ghost use Rattle.bs_semantics.specs.Verdict.{Verdict, IsVerdict, ambiguous};
@@ -127,8 +131,16 @@ pub fn closed_sets()
     ensures causes { (p : Program) (limit : ℕ) (hs : List History) → Closed p limit hs → (x : Block) → Mem x (all_blocks hs) → HasSortedCauses x }
 {}
 
+ghost use Rattle.bs_log.specs.ClosedTest.{LooksClosed};
+
+/// Closed histories of a program that has from 1 to 65536 chares, at a limit of at most 262144, pass
+/// the test of closed histories that the log's own words state.
+pub fn looks_closed()
+    ensures { (p : Program) (limit : ℕ) (hs : List History) → limit ≤ 262144 → 1 ≤ p.chares → p.chares ≤ 65536 → Closed p limit hs → LooksClosed hs }
+{}
+
 ghost use Rattle.bs_semantics.specs.Serial.{Started, histories_at, IsClean};
-ghost use Rattle.bs_semantics.specs.Starting.{AreBlocks, NoneEnabled, AllIn, IsWithinRound};
+ghost use Rattle.bs_semantics.specs.Starting.{AreBlocks, NoneEnabled, IsWithinRound};
 
 /// Where blocks that were started, in any order, are blocks of the histories under what they sent, these
 /// histories are clean, and no further block can be started, the histories are closed (`stuck`). And
@@ -146,8 +158,21 @@ pub fn one_serial()
     ensures { (p : Program) (limit : ℕ) (m : Machine) (r s : Simulated) → IsSerial p limit m r → IsSerial p limit m s → r ≡ s }
 {}
 
-ghost use Rattle.bs_log.specs.declared.outcome.Outcome.{Outcome};
 ghost use Rattle.bs_semantics.specs.Serial.{unclean, timed};
+
+/// **The model always has an answer.** For every program, limit and machine the serial machine model
+/// gives an answer (`some`). So it gives `unclean` where no round is Clean (`unclean`): an outcome
+/// would show one.
+///
+/// There is no premise on the program or on the machine. The model comes to its end since the blocks
+/// that it starts are blocks of the histories, each once, and in a clean state these are no more than
+/// the limit.
+pub fn some_serial()
+    ensures some { (p : Program) (limit : ℕ) (m : Machine) → (r : Simulated) × IsSerial p limit m r }
+    ensures unclean { (p : Program) (limit : ℕ) (m : Machine) → ((n : ℕ) → CleanAt p limit n → ⊥) → IsSerial p limit m unclean }
+{}
+
+ghost use Rattle.bs_log.specs.declared.outcome.Outcome.{Outcome};
 ghost use Rattle.bs_semantics.specs.Reached.{IsReached, Shows};
 
 /// **Serial.** Where the verdict is Clean, each state that the serial machine model reaches is clean
