@@ -1,2 +1,7 @@
+pub mod Book
 pub mod Machine
+pub mod Mails
+pub mod Next
+pub mod Ready
 pub mod Simulated
+pub mod State

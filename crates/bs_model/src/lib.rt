@@ -3,8 +3,15 @@
 //! `docs/model.md` says what it gives.
 #![tactic(auto)]
 
+mod book;
+mod candidates;
+mod copies;
+mod mails;
 mod model;
+mod outcome;
+mod ready;
 mod simulated;
+mod state;
 
 pub use model::simulate;
 pub use simulated::Simulated;

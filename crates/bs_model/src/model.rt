@@ -1,11 +1,17 @@
 // The serial machine model.
-ghost use Rattle.std.specs.Prelude.{◌≡◌, ◌≤◌, IfOk};
+ghost use Rattle.std.specs.Prelude.{◌≡◌, ◌≤◌, ℕ, IfOk};
+ghost use Rattle.bs_report.specs.Report.{IsReportable};
+ghost use Rattle.bs_semantics.specs.Rounds.{CleanAt};
+ghost use Rattle.bs_semantics.specs.Serial.{IsSerial, timed};
 ghost use Rattle.bs_model.specs.Machine.{machine_of};
 ghost use Rattle.bs_model.specs.Simulated.{IsDecided, IsSimulated};
 
 use crate::simulated::Simulated;
+use crate::state::State;
 use bs_check::Accepted;
+use bs_log::Outcome;
 use bs_machine::Fitted;
+use bs_rounds::{Verdict, verdict};
 use std::alloc::{AllocError, Global};
 
 /// What the serial machine model gives for a program on a machine that was fitted to the program's
@@ -13,15 +19,44 @@ use std::alloc::{AllocError, Global};
 ///
 /// `Unclean` comes exactly where the verdict on the program isn't Clean.
 pub fn simulate(
-    _alloc: Global,
-    _accepted: &Accepted,
-    _machine: &Fitted,
-    _limit: u64,
+    alloc: Global,
+    accepted: &Accepted,
+    machine: &Fitted,
+    limit: u64,
 ) -> Result<Simulated, AllocError>
-    requires chares { _machine.now.chares ≡ _accepted.now.program.chares }
-    requires limit { (1 ≤ _limit) × (_limit ≤ 262144) }
-    ensures value { IfOk result (λ s. IsSimulated _accepted.now.program _limit (machine_of _machine.now) s) }
-    ensures decided { IfOk result (λ s. IsDecided _accepted.now.program _limit s) }
+    requires chares { machine.now.chares ≡ accepted.now.program.chares }
+    requires limit { (1 ≤ limit) × (limit ≤ 262144) }
+    ensures value { IfOk result (λ s. IsSimulated accepted.now.program limit (machine_of machine.now) s) }
+    ensures decided { IfOk result (λ s. IsDecided accepted.now.program limit s) }
 {
-    Err(AllocError)
+    let Verdict::Clean(_) = verdict(alloc, accepted, limit)? else {
+        return Ok(Simulated::Unclean);
+    };
+    let outcome = run(alloc, accepted, machine, limit)?;
+    Ok(Simulated::Timed(outcome))
+}
+
+// Starts blocks until none can start. Where the verdict is Clean, each state is clean, so none needs to
+// be tested.
+fn run(
+    alloc: Global,
+    accepted: &Accepted,
+    machine: &Fitted,
+    limit: u64,
+) -> Result<Outcome, AllocError>
+    requires chares { machine.now.chares ≡ accepted.now.program.chares }
+    requires limit { (1 ≤ limit) × (limit ≤ 262144) }
+    requires clean { (n : ℕ) × CleanAt accepted.now.program limit n }
+    ensures serial { IfOk result (λ o. IsSerial accepted.now.program limit (machine_of machine.now) (timed o)) }
+    ensures reportable { IfOk result IsReportable }
+{
+    let mut state = State::begin(alloc, accepted, machine, limit)?;
+    for _turn in 0..limit + 1 {
+        match state.next(machine) {
+            Some(next) => state = state.start(alloc, accepted, machine, limit, next)?,
+            None => return state.outcome(alloc),
+        }
+    }
+    // A clean state has no more blocks than the limit.
+    unreachable!()
 }

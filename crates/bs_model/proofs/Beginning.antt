@@ -1,0 +1,65 @@
+-- The state before any block is started.
+use Rattle.std.proofs.Common.{◌≡◌, ◌≤◌, ◌<◌, ◌+◌, ℕ, zero, suc, List, [], ◌∷◌, Option, Some, None, length, slice_get, get_or, replicate, map, refl, sym, ap, subst, ◌∙◌, arith}
+use Rattle.std.proofs.lemmas.Option.{slice_get_within}
+use Rattle.bs_tree.specs.declared.tree.Program.{Program}
+use Rattle.bs_log.specs.declared.history.Message.{Message}
+use Rattle.bs_log.specs.declared.history.History.{History}
+use Rattle.bs_log.specs.Size.{size}
+use Rattle.bs_machine.specs.declared.fitted.Fitted.{Fitted}
+use Rattle.bs_machine.specs.Fitted.{processors_of}
+use Rattle.bs_match.specs.Mail.{lookup}
+use Rattle.bs_semantics.specs.Run.{history}
+use Rattle.bs_semantics.specs.Rounds.{CleanAt, histories, mail_to}
+use Rattle.bs_semantics.specs.Reached.{begins}
+use Rattle.bs_semantics.proofs.Starting.{partly}
+use Rattle.bs_model.specs.declared.book.Book.{Book}
+use Rattle.bs_model.specs.declared.candidates.Best.{Best}
+use Rattle.bs_model.specs.declared.state.State.{State}
+use Rattle.bs_model.specs.Book.{at_key, found, keyed}
+use Rattle.bs_model.specs.Mails.{mail_in}
+use Rattle.bs_model.specs.Next.{best_among}
+use Rattle.bs_model.specs.Ready.{AreBooked}
+use Rattle.bs_model.specs.State.{Follows}
+use Rattle.bs_model.proofs.Places.{at_number, numbered}
+use Rattle.bs_model.proofs.Pushing.{Pushed}
+use Rattle.bs_model.proofs.Stepping.{size_here}
+
+pub first_short : (p : Program) (limit n : ℕ) → CleanAt p limit n → (c : ℕ) → c < p.chares → size (history p limit c (lookup [])) ≤ limit
+first_short p limit n clean c l =
+    let w = partly p limit n [] clean (λ m i. absurd i) in
+    let here : slice_get (histories p limit []) c ≡ Some (history p limit c (mail_to [] c)) = at_number (λ c. history p limit c (mail_to [] c)) p.chares 0 c l ∙ ap (λ d. Some (history p limit d (mail_to [] d))) (omega arith) in
+    let one = size_here (histories p limit []) c _ here in
+    let all = w.size in
+    omega (arith, one, all)
+
+pub none_booked : (m : Fitted) (book : Book) → keyed book ≡ [] → AreBooked m book
+none_booked m book e c path b f =
+    let none : found book c path ≡ None = ap (λ es. at_key es (c ∷ path)) e in
+    absurd (cc)
+
+pub all_zero : (n q : ℕ) → ◌≡◌ {A = ℕ} (get_or (replicate {A = ℕ} n 0) q 0) 0
+all_zero zero q = refl
+all_zero (suc n) zero = refl
+all_zero (suc n) (suc q) = all_zero n q
+
+pub follows_none : (p : Program) (limit : ℕ) (m : Fitted) (t : State) → keyed t.book ≡ [] → length t.ends.items ≡ processors_of m → ((q : ℕ) → get_or t.ends.items q 0 ≡ 0)
+    → Pushed (λ (c : ℕ) (o : Option (List Message)). o ≡ Some []) p.chares t.mails.items
+    → Pushed (λ (c : ℕ) (o : Option History). o ≡ Some (history p limit c (lookup []))) p.chares t.histories.items
+    → Pushed (λ (c : ℕ) (o : Option (Option Best)). best_among m t.book c (Some (history p limit c (lookup []))) o) p.chares t.bests.items
+    → Follows p limit m [] t
+follows_none p limit m t book processors ends mails histories bests = record {
+  reached = begins;
+  book = book;
+  processors = processors;
+  ends = λ q l. ends q;
+  chares = mails.count;
+  mails = λ c l. ap mail_in (mails.each c l);
+  histories = numbered (λ c. history p limit c (mail_to [] c)) p.chares 0 t.histories.items histories.count (λ c l. histories.each c l ∙ ap (λ d. Some (history p limit d (lookup []))) (omega arith));
+  bests = record {
+    count = bests.count ∙ sym histories.count;
+    each = λ c l.
+        let k = histories.count in
+        let lt : c < p.chares = omega (arith, l, k) in
+        subst (λ h. best_among m t.book c h (slice_get t.bests.items c)) (sym (histories.each c lt)) (bests.each c lt);
+  };
+}

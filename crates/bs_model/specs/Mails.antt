@@ -1,0 +1,59 @@
+-- The mails of the chares, and the histories under them.
+use Rattle.std.specs.Prelude.{◌≡◌, ◌≤◌, ◌<◌, ◌⊎◌, ℕ, ◌==◌, Bool, false, if◌then◌else◌, List, [], ◌∷◌, Option, Some, None, length, slice_get, map, option_map}
+use Rattle.bs_tree.specs.declared.tree.Program.{Program}
+use Rattle.bs_log.specs.declared.history.Key.{Key}
+use Rattle.bs_log.specs.declared.history.Message.{Message}
+use Rattle.bs_log.specs.declared.history.History.{History}
+use Rattle.bs_log.specs.Size.{size}
+use Rattle.bs_match.specs.Mail.{lookup, with_message}
+use Rattle.bs_semantics.specs.Run.{Lookup, history}
+use Rattle.bs_semantics.specs.Rounds.{Mem}
+
+-- what a list of messages holds, if there is one
+abbrev pub mail_in : Option (List Message) → Lookup
+mail_in None = lookup []
+mail_in (Some ms) = lookup ms
+
+-- the mail of a chare
+abbrev pub mail_at : List (List Message) → ℕ → Lookup
+mail_at mails c = mail_in (slice_get mails c)
+
+-- a chare's mail after messages were put, the last of the list first
+abbrev pub mail_after : ℕ → Lookup → List Message → Lookup
+mail_after c mail [] = mail
+mail_after c mail (m ∷ ms) = if m.sent.to == c then with_message m (mail_after c mail ms) else mail_after c mail ms
+
+-- each chare's mail is as it was, with the messages that go to the chare
+pub record AreDelivered (old : List (List Message)) (ms : List Message) (new : List (List Message)) : Type 0 where
+  pub count : length new ≡ length old
+  pub mails : (c : ℕ) → c < length old → mail_at new c ≡ mail_after c (mail_at old c) ms
+
+-- who got no message has the mail that it had
+pub record AreKept (old : List (List Message)) (heard : List Bool) (new : List (List Message)) : Type 0 where
+  pub count : length heard ≡ length old
+  pub kept : (c : ℕ) → slice_get heard c ≡ Some false → mail_at new c ≡ mail_at old c
+
+-- messages go to chares, and those of one key to one chare are one message, also where it was put before
+pub record CanDeliver (mails : List (List Message)) (ms : List Message) : Type 0 where
+  pub target : (m : Message) → Mem m ms → m.sent.to < length mails
+  pub among : (m x : Message) → Mem m ms → Mem x ms → x.sent.to ≡ m.sent.to → x.sent.key ≡ m.sent.key → x ≡ m
+  pub held : (m x : Message) → Mem m ms → mail_at mails m.sent.to m.sent.key ≡ Some x → x ≡ m
+
+-- no message is deeper than the greatest limit
+abbrev pub IsShallow : List Message → Type 0
+IsShallow ms = (k : Key) (m : Message) → lookup ms k ≡ Some m → m.origin.depth ≤ 262144
+
+abbrev pub AreShallow : List (List Message) → Type 0
+AreShallow mails = (c : ℕ) (k : Key) (m : Message) → mail_at mails c k ≡ Some m → m.origin.depth ≤ 262144
+
+-- no history is too long
+abbrev pub AreShort : Program → ℕ → List (List Message) → Type 0
+AreShort p limit mails = (c : ℕ) → c < length mails → size (history p limit c (mail_at mails c)) ≤ limit
+
+abbrev pub history_at : Program → ℕ → List (List Message) → ℕ → Option History
+history_at p limit mails c = Some (history p limit c (mail_at mails c))
+
+-- each chare's history under its mail
+pub record AreHistories (p : Program) (limit : ℕ) (mails : List (List Message)) (hs : List History) : Type 0 where
+  pub count : length hs ≡ length mails
+  pub each : (c : ℕ) → c < length mails → slice_get hs c ≡ history_at p limit mails c

@@ -1,0 +1,176 @@
+// The state of the machine, and its steps.
+ghost use Rattle.std.specs.Prelude.{◌≡◌, ◌≤◌, ◌<◌, ◌^◌, ℕ, List, [], ◌∷◌, false, IfOk, OnOk, Some, length, map, slice_get};
+ghost use Rattle.bs_machine.specs.Fitted.{home_of, processors_of};
+ghost use Rattle.bs_semantics.specs.Rounds.{CleanAt};
+ghost use Rattle.bs_semantics.specs.Serial.{Started};
+ghost use Rattle.bs_model.specs.Book.{keyed};
+ghost use Rattle.bs_model.specs.Next.{IsLeast};
+ghost use Rattle.bs_log.specs.Collected.{traps_from, waits_from};
+ghost use Rattle.bs_model.specs.State.{Follows, begun_of};
+
+use crate::book::{Begun, Book};
+use crate::candidates::{Best, Next, best_block, choose, next_block};
+use crate::copies::{copy_messages, copy_numbers, copy_sends};
+use crate::mails::{deliver, renew, take};
+use crate::outcome::{traps, waits};
+use bs_check::Accepted;
+use bs_log::{Block, History, OutRow, Outcome};
+use bs_machine::Fitted;
+use bs_match::Mail;
+use std::alloc::{AllocError, Global};
+
+/// What was started, and what that leads to: the last end of each processor, and of each chare its
+/// mail, its history under that mail, and the block of it that starts before its others.
+#[derive(Drop)]
+pub(crate) struct State {
+    book: Book,
+    ends: Vec<u128>,
+    mails: Vec<Mail>,
+    histories: Vec<History>,
+    bests: Vec<Option<Best>>,
+}
+
+impl State {
+    ghost use Rattle.std.specs.Prelude.{◌≡◌, ◌≤◌, ◌<◌, ◌^◌, ℕ, List, [], ◌∷◌, false, IfOk, OnOk, Some, length, map, slice_get};
+    ghost use Rattle.bs_machine.specs.Fitted.{home_of, processors_of};
+    ghost use Rattle.bs_semantics.specs.Rounds.{CleanAt};
+    ghost use Rattle.bs_semantics.specs.Serial.{Started};
+    ghost use Rattle.bs_model.specs.Book.{keyed};
+    ghost use Rattle.bs_model.specs.Next.{IsLeast};
+    ghost use Rattle.bs_log.specs.Collected.{traps_from, waits_from};
+    ghost use Rattle.bs_model.specs.State.{Follows, begun_of};
+
+    /// Nothing is started yet.
+    pub(crate) fn begin(
+        alloc: Global,
+        accepted: &Accepted,
+        machine: &Fitted,
+        limit: u64,
+    ) -> Result<State, AllocError>
+        requires chares { machine.now.chares ≡ accepted.now.program.chares }
+        requires limit { (1 ≤ limit) × (limit ≤ 262144) }
+        requires clean { (n : ℕ) × CleanAt accepted.now.program limit n }
+        ensures { IfOk result (Follows accepted.now.program limit machine.now []) }
+    {
+        let chares = accepted.chares();
+        let book = Book::new(alloc);
+        let mut mails = Vec::new(alloc);
+        let mut histories = Vec::new(alloc);
+        let mut bests = Vec::new(alloc);
+        for chare in 0..chares {
+            let mail = Mail::new(alloc);
+            let history = take(alloc, accepted, chare, &mail, limit)?;
+            bests.push(best_block(alloc, machine, &book, chare, history.blocks.as_slice())?)?;
+            histories.push(history)?;
+            mails.push(mail)?;
+        }
+        let ends = vec![in alloc; 0; machine.processors() as usize]?;
+        Ok(State {
+            book,
+            ends,
+            mails,
+            histories,
+            bests,
+        })
+    }
+
+    /// The block that starts next, if one can.
+    pub(crate) fn next(&self, machine: &Fitted) -> Option<Next>
+        requires chares { length self.now.bests.items ≡ machine.now.chares }
+        requires ends { length self.now.ends.items ≡ processors_of machine.now }
+        ensures { IsLeast machine.now self.now.ends.items self.now.bests.items result }
+    {
+        next_block(machine, &self.bests, &self.ends)
+    }
+
+    /// Starts a block, and sends its messages.
+    pub(crate) fn start(
+        self,
+        alloc: Global,
+        accepted: &Accepted,
+        machine: &Fitted,
+        limit: u64,
+        next: Next,
+    ) -> Result<State, AllocError>
+        requires chares { machine.now.chares ≡ accepted.now.program.chares }
+        requires limit { (1 ≤ limit) × (limit ≤ 262144) }
+        requires clean { (n : ℕ) × CleanAt accepted.now.program limit n }
+        requires follows { (bs : List Started) × Follows accepted.now.program limit machine.now bs self }
+        requires least { IsLeast machine.now self.ends.items self.bests.items (Some next) }
+        ensures { IfOk result (λ s. (bs : List Started) → Follows accepted.now.program limit machine.now bs self → (b : Started) × Follows accepted.now.program limit machine.now (b ∷ bs) s) }
+    {
+        let State {
+            mut book,
+            mut ends,
+            mut mails,
+            mut histories,
+            mut bests,
+        } = self;
+        let block = block_at(&histories[next.chare as usize], next.best.at);
+        let begun = begin(alloc, machine, block, &next)?;
+        let messages = copy_messages(alloc, block.sends.as_slice())?;
+        ends[next.processor as usize] = begun.row.end;
+        book.put(alloc, &block.path, begun)?;
+        let mut changed = deliver(alloc, &mut mails, messages)?;
+        renew(alloc, accepted, &mails, &changed, limit, &mut histories)?;
+        changed[next.chare as usize] = true;
+        choose(alloc, machine, &book, &histories, &changed, &mut bests)?;
+        Ok(State {
+            book,
+            ends,
+            mails,
+            histories,
+            bests,
+        })
+    }
+
+    /// The outcome, where no block can start.
+    pub(crate) fn outcome(self, alloc: Global) -> Result<Outcome, AllocError>
+        requires { length self.histories.items ≤ 65536 }
+        ensures rows { IfOk result (λ o. o.rows ≡ map (λ e. e.1.row) (keyed self.book)) }
+        ensures traps { IfOk result (λ o. o.traps ≡ traps_from 0 self.histories.items) }
+        ensures waits { IfOk result (λ o. o.waits ≡ waits_from 0 self.histories.items) }
+    {
+        let State {
+            book,
+            histories,
+            ..
+        } = self;
+        Ok(Outcome {
+            rows: book.rows(alloc)?,
+            traps: traps(alloc, &histories)?,
+            waits: waits(alloc, &histories)?,
+        })
+    }
+}
+
+// A block that starts at a tick.
+fn begin(alloc: Global, machine: &Fitted, block: &Block, next: &Next) -> Result<Begun, AllocError>
+    requires cost { (1 ≤ block.now.cost) × (block.now.cost ≤ 2 ^ 32) }
+    requires early { next.now.start < 2 ^ 100 }
+    requires home { next.now.processor ≡ home_of machine.now next.now.chare }
+    ensures { IfOk result (λ begun. begun ≡ begun_of machine.now (record { chare = next.now.chare; block = block.now; start = next.now.start })) }
+{
+    let end = next.start + u128::from(machine.duration(block.cost));
+    let values = copy_numbers(alloc, &block.emits)?;
+    let sends = copy_sends(alloc, block.sends.as_slice())?;
+    Ok(Begun {
+        row: OutRow {
+            chare: next.chare,
+            stmt: block.stmt,
+            processor: next.processor,
+            start: next.start,
+            end,
+            values,
+        },
+        sends,
+    })
+}
+
+// A block of a history, by its place.
+fn block_at(history: &History, at: usize) -> &Block
+    requires { at < length history.now.blocks }
+    ensures { slice_get history.now.blocks at ≡ Some result.now }
+{
+    &history.blocks.as_slice()[at]
+}
