@@ -1,5 +1,5 @@
 -- The branches of an `if`.
-use Rattle.std.proofs.Common.{◌≡◌, ℕ, ◌+◌, List, [], ◌∷◌, ◌++◌, map, Option, Some, None, Result, Ok, Err, Bool, true, false, refl, sym, ap, ap₂, subst, ◌∙◌}
+use Rattle.std.proofs.Common.{◌≡◌, ℕ, ◌+◌, List, [], ◌∷◌, ◌++◌, map, Option, Some, None, Result, Err, Bool, true, false, ap, ap₂, subst, ◌∙◌}
 use Rattle.bs_tree.specs.declared.tree.Expr.{Expr}
 use Rattle.bs_tree.specs.declared.tree.Stmt.{Stmt}
 use Rattle.bs_tree.specs.declared.tree.Stmt.TheVariants as v
@@ -11,7 +11,7 @@ use Rattle.bs_history.specs.declared.ground.Ground.{Ground}
 use Rattle.bs_history.specs.declared.ground.State.{State}
 use Rattle.bs_history.specs.declared.fault.HistoryFault.{HistoryFault}
 use Rattle.bs_history.specs.Control.{is_true}
-use Rattle.bs_history.specs.Ground.{Left, Did, Runs, Goes, Finds, state_of, program_of, means, mail_of}
+use Rattle.bs_history.specs.Ground.{Did, Runs, Goes, Finds, state_of, program_of, means, mail_of}
 use Rattle.bs_history.proofs.Lefts.{runs_left, tested, test_err}
 use Rattle.bs_history.proofs.Meanings.{if_does, if_alone_does}
 

@@ -1,5 +1,5 @@
 -- What is written at the end is the history.
-use Rattle.std.proofs.Common.{◌≡◌, ◌≤◌, ◌<◌, ℕ, arith, List, [], ◌++◌, append-nil, is_some, Option, Some, None, Result, Ok, Err, Bool, true, false, refl, sym, ap, subst, ◌∙◌}
+use Rattle.std.proofs.Common.{◌≡◌, ◌≤◌, ℕ, arith, [], ◌++◌, append-nil, is_some, Bool, true, false, refl, sym, ap, ◌∙◌}
 use Rattle.bs_log.specs.declared.history.History.{History}
 use Rattle.bs_log.specs.Size.{size}
 use Rattle.bs_semantics.specs.Run.{Run, to_history}

@@ -1,9 +1,9 @@
 -- A part of an overlap beside those so far.
-use Rattle.std.proofs.Common.{◌≡◌, ◌≤◌, ◌<◌, ℕ, ◌+◌, max, arith, le_trans, List, [], ◌∷◌, ◌++◌, append_assoc, length, length-append, ◌==◌, Err, drop, map, Option, Some, None, Bool, true, false, refl, le_refl, sym, ap, ap₂, subst, ◌∙◌}
+use Rattle.std.proofs.Common.{◌≡◌, ◌≤◌, ◌<◌, ℕ, ◌+◌, arith, le_trans, List, [], ◌∷◌, ◌++◌, append_assoc, length, length-append, ◌==◌, Err, drop, map, Option, Some, None, Bool, true, false, refl, le_refl, sym, ap, ap₂, ◌∙◌}
 use Rattle.std.proofs.lemmas.List.{drop_all}
 use Rattle.bs_tree.specs.declared.tree.Stmt.{Stmt}
 use Rattle.bs_tree.specs.Count.{statements_of}
-use Rattle.bs_semantics.specs.Run.{Lookup, Run, Meant, State as PlainState, ends, halts, both, join, parts, overlap, no_causes}
+use Rattle.bs_semantics.specs.Run.{Lookup, Run, Meant, State as PlainState, both, join, parts, overlap, no_causes}
 use Rattle.bs_history.specs.declared.trail.Trail.{Trail}
 use Rattle.bs_history.specs.declared.ground.Ground.{Ground}
 use Rattle.bs_history.specs.declared.ground.State.{State}

@@ -1,5 +1,5 @@
 -- One part of a run after the other.
-use Rattle.std.proofs.Common.{◌≡◌, ◌≤◌, ◌<◌, ℕ, suc, ◌+◌, ◌-◌, le_trans, List, [], ◌∷◌, ◌++◌, append_assoc, append-nil, length-append, le_refl, arith, map, Option, Some, None, Result, Ok, Err, Bool, true, false, refl, sym, ap, ap₂, subst, ◌∙◌}
+use Rattle.std.proofs.Common.{◌≡◌, ◌≤◌, ◌<◌, ℕ, suc, le_trans, List, [], ◌++◌, append_assoc, append-nil, length-append, le_refl, arith, Option, Some, None, Result, Ok, Err, Bool, true, false, refl, sym, ap, subst, ◌∙◌}
 use Rattle.std.proofs.lemmas.List.Sums.{sum_by-append}
 use Rattle.bs_log.specs.Size.{block_size}
 use Rattle.bs_log.specs.declared.history.Block.{Block}
@@ -11,15 +11,15 @@ use Rattle.std.specs.Ordering.{int_eq}
 use Rattle.std.proofs.lemmas.Bool.Decides.{Decides-int_eq}
 use Rattle.bs_semantics.specs.Value.{Value}
 use Rattle.bs_history.specs.Control.{is_true}
-use Rattle.bs_semantics.specs.Run.{Run, State as PlainState, ends, halts, after, from_end, then_do, with, branch}
+use Rattle.bs_semantics.specs.Run.{Run, State as PlainState, after, from_end, then_do, with, branch}
 use Rattle.bs_history.specs.declared.trail.Trail.{Trail}
 use Rattle.bs_history.specs.declared.ground.Ground.{Ground}
 use Rattle.bs_history.specs.declared.ground.State.{State}
 use Rattle.bs_history.specs.declared.fault.HistoryFault.{HistoryFault}
 use Rattle.bs_history.specs.declared.fault.HistoryFault.TheVariants.{Long, Memory}
 use Rattle.bs_history.specs.Trail.{so_far, run_size}
-use Rattle.bs_history.specs.Ground.{IsReady, Left, Did, Runs, Goes, IsLong, Finds, Steps, on, reached, stopped, state_of}
-use Rattle.bs_history.proofs.Trails.{so_far_size, written}
+use Rattle.bs_history.specs.Ground.{Left, Did, Runs, Goes, IsLong, Finds, Steps, on, reached, stopped, state_of}
+use Rattle.bs_history.proofs.Trails.{so_far_size}
 
 module _ (g : Ground) where
   pub then_left : (q r whole : Run) (old mid new : Trail) (s s' : State) → Left g r whole old mid s → Left g q r mid new s' → Left g q whole old new s'

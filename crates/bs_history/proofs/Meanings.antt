@@ -1,5 +1,5 @@
 -- What each statement means, and how many statements it is.
-use Rattle.std.proofs.Common.{◌≡◌, ℕ, suc, ◌+◌, arith, Bool, true, ◌&&◌, ◌||◌, List, [], ◌∷◌, ◌++◌, Option, Some, None, map, sum, refl, sym, ap, ap₂, subst, subst₂, ◌∙◌}
+use Rattle.std.proofs.Common.{◌≡◌, ℕ, suc, ◌+◌, arith, Bool, true, ◌&&◌, ◌||◌, List, [], ◌∷◌, ◌++◌, Some, None, map, sum, refl, sym, ap, ap₂, subst, subst₂, ◌∙◌}
 use Rattle.bs_tree.specs.declared.tree.NameId.{NameId}
 use Rattle.bs_tree.specs.declared.tree.Wait.{Wait}
 use Rattle.bs_tree.specs.declared.tree.Expr.{Expr}
@@ -8,7 +8,7 @@ use Rattle.bs_tree.specs.declared.tree.Stmt.TheOpen.{Stmt-F}
 use Rattle.bs_tree.specs.declared.tree.Stmt.TheVariants as v
 use Rattle.bs_tree.specs.declared.tree.Stmt.TheFolds.{fold-roll-Stmt, ind-Stmt, map-Stmt}
 use Rattle.bs_tree.specs.declared.tree.Program.{Program}
-use Rattle.bs_tree.specs.Count.{statements_of, statements_in, statements_step, statements_in_else}
+use Rattle.bs_tree.specs.Count.{statements_of, statements_in, statements_step}
 use Rattle.std.proofs.lemmas.List.Sums.{sum_by-cons}
 use Rattle.bs_semantics.specs.Layout.{place_of}
 use Rattle.bs_semantics.specs.Value.{Value, value_of}
@@ -17,7 +17,7 @@ use Rattle.bs_check.specs.Known.{is_known}
 use Rattle.std.proofs.lemmas.Bool.{and_parts}
 use Rattle.bs_check.specs.Fits.{fit_step, is_fit, are_fit, is_set_fit, is_for_fit}
 use Rattle.bs_history.specs.Ground.{program_of, means, mail_of}
-use Rattle.bs_semantics.specs.Run.{Run, State as PlainState, turns, no_step, assign, in_turn, keys_of, ask, took, any_part, overlap, with, branch, ends, Meant, meant, meant_step, counts, else_counts, count_step}
+use Rattle.bs_semantics.specs.Run.{Run, State as PlainState, turns, no_step, assign, in_turn, keys_of, ask, took, any_part, overlap, with, branch, ends, Meant, meant, meant_step, counts, count_step}
 
 module _ (p : Program) (limit this : ℕ) where
   abbrev all : List Stmt → List Meant

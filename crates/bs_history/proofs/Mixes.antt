@@ -1,6 +1,6 @@
 -- The cells of a part beside those of the others.
-use Rattle.std.proofs.Common.{◌≡◌, ◌≤◌, ◌<◌, ℕ, suc, zero, ◌+◌, arith, List, [], ◌∷◌, length, get_or, set, Bool, true, false, ◌&&◌, ◌||◌, if◌then◌else◌, refl, sym, ap, ap₂, subst, ◌∙◌}
-use Rattle.std.specs.Prelude.{ℤ, pos, nat_le, nat_lt}
+use Rattle.std.proofs.Common.{◌≡◌, ◌≤◌, ◌<◌, ℕ, suc, zero, ◌+◌, arith, [], ◌∷◌, length, get_or, set, Bool, true, false, ◌||◌, if◌then◌else◌, refl, sym, ap, ap₂, subst}
+use Rattle.std.specs.Prelude.{ℤ, pos}
 use Rattle.bs_semantics.specs.Value.{Cells}
 use Rattle.bs_semantics.specs.Run.{mix}
 

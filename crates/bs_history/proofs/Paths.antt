@@ -1,9 +1,9 @@
 -- The paths and depths of causes.
 use Rattle.std.proofs.Common.{◌≡◌, ◌≤◌, ℕ, max, arith, List, [], ◌∷◌, ◌++◌, refl, sym, ap, ◌∙◌, map, reverse, ap₂, drop, get_or, length, ◌<◌, ◌+◌, Ordering, Less, Equal, Greater}
-use Rattle.std.proofs.lemmas.List.{reverse-append, drop_more, drop_all}
+use Rattle.std.proofs.lemmas.List.{drop_more, drop_all}
 use Rattle.bs_tree.specs.declared.tree.Path.{Path}
 use Rattle.bs_log.specs.declared.history.Origin.{Origin}
-use Rattle.bs_semantics.specs.Run.{Cause as PlainCause, Causes as PlainCauses, greatest, depth_of, place_by, put, put_all, cause_cmp, origin_cmp, union}
+use Rattle.bs_semantics.specs.Run.{Cause as PlainCause, greatest, depth_of, place_by, put, put_all, cause_cmp, origin_cmp, union}
 use Rattle.bs_history.specs.declared.causes.Cause.{Cause}
 use Rattle.bs_history.specs.Causes.{cause_of}
 use Rattle.bs_history.proofs.Places.{reverse_cons}

@@ -1,5 +1,5 @@
 -- Vectors that hold a set in order, the greatest item first.
-use Rattle.std.proofs.Common.{◌≡◌, ◌≤◌, ◌<◌, ℕ, ◌+◌, ◌-◌, arith, List, [], ◌∷◌, ◌++◌, refl, sym, ap, ap₂, ◌∙◌, append_assoc, append-nil, take, drop, length, get_or, insert, reverse, take-append-drop, take_all, le_refl, Ordering, Less, Equal, Greater}
+use Rattle.std.proofs.Common.{◌≡◌, ◌≤◌, ◌<◌, ℕ, ◌+◌, ◌-◌, arith, List, [], ◌∷◌, ◌++◌, refl, sym, ap, ap₂, ◌∙◌, append_assoc, take, drop, length, get_or, reverse, take-append-drop, take_all, le_refl, Ordering, Less, Equal, Greater}
 use Rattle.std.proofs.lemmas.List.{take_more, drop_more, drop_all, reverse-append}
 use Rattle.std.proofs.lemmas.Grind.{reverse_onto}
 use Rattle.bs_semantics.specs.Run.{put, put_all, place_by}

@@ -1,6 +1,6 @@
 -- What is taken from a part: each variable for itself, one after the other.
-use Rattle.std.proofs.Common.{◌≡◌, ◌≤◌, ◌<◌, ℕ, suc, ◌+◌, arith, List, [], ◌∷◌, length, get_or, set, drop, Bool, true, false, ◌&&◌, ◌||◌, Option, Some, None, map, refl, sym, ap, ◌∙◌}
-use Rattle.std.specs.Prelude.{pos, nat_le, nat_lt}
+use Rattle.std.proofs.Common.{◌≡◌, ◌≤◌, ◌<◌, ℕ, ◌+◌, arith, List, [], ◌∷◌, length, get_or, set, drop, Bool, true, false, ◌||◌, Option, Some, map, refl, sym, ap, ◌∙◌}
+use Rattle.std.specs.Prelude.{pos}
 use Rattle.std.proofs.lemmas.List.{drop_all}
 use Rattle.std.proofs.lemmas.Bool.Decides.{nat_tests}
 use Rattle.bs_tree.specs.declared.tree.NameId.{NameId}

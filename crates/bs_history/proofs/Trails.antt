@@ -1,15 +1,14 @@
 -- What is written stands behind what was there.
-use Rattle.std.proofs.Common.{◌≡◌, ◌≤◌, ◌<◌, ℕ, ◌+◌, max, arith, List, [], ◌∷◌, ◌++◌, length, map, sum_by, length-append, append_assoc, Option, Some, None, Result, Ok, Err, true, false, refl, sym, suc, le_refl, ap, subst, ◌∙◌}
+use Rattle.std.proofs.Common.{◌≡◌, ◌≤◌, ◌<◌, ℕ, ◌+◌, max, arith, List, [], ◌∷◌, ◌++◌, length, map, sum_by, length-append, append_assoc, Some, None, Ok, Err, true, false, refl, sym, suc, le_refl, ap, subst, ◌∙◌}
 use Rattle.std.specs.Prelude.{ℤ}
 use Rattle.std.proofs.lemmas.List.{length-map}
 use Rattle.std.proofs.lemmas.List.Sums.{sum_by-append, sum_by-cons}
 use Rattle.bs_tree.specs.declared.tree.Expr.{Expr}
-use Rattle.bs_log.specs.declared.history.Block.{Block}
 use Rattle.bs_log.specs.declared.history.TrapKind.{TrapKind}
 use Rattle.bs_log.specs.Size.{block_size}
 use Rattle.bs_semantics.specs.Value.{Value, value_of}
 use Rattle.bs_semantics.specs.Acts.{Done, Parcel}
-use Rattle.bs_semantics.specs.Run.{Run, State as PlainState, Causes, ends, halts, trapped, after, with, serial, alone, signed, depth_of}
+use Rattle.bs_semantics.specs.Run.{Run, Causes, ends, halts, trapped, after, with, serial, alone, signed, depth_of}
 use Rattle.bs_semantics.proofs.Sizes.{count_blocks}
 use Rattle.bs_block.specs.declared.done.BlockDone.{BlockDone}
 use Rattle.bs_block.specs.declared.done.BlockFault.TheVariants.{Trap}
@@ -20,7 +19,7 @@ use Rattle.bs_history.specs.declared.trail.Trail.{Trail}
 use Rattle.bs_history.specs.declared.ground.Ground.{Ground}
 use Rattle.bs_history.specs.declared.ground.State.{State}
 use Rattle.bs_history.specs.Trail.{so_far, run_size, IsWithin, Wrote, a_block}
-use Rattle.bs_history.specs.Ground.{program_of, state_of, IsReady, Did, Goes, IsLong, stopped}
+use Rattle.bs_history.specs.Ground.{program_of, state_of, IsReady, Did, Goes, IsLong}
 use Rattle.bs_history.specs.Serial.{made_from}
 
 -- the size of what is written

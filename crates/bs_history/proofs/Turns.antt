@@ -1,17 +1,17 @@
 -- What is left of a list and of the turns of a loop.
-use Rattle.std.proofs.Common.{◌≡◌, ◌≤◌, ◌<◌, ℕ, suc, ◌+◌, ◌-◌, arith, List, [], ◌∷◌, ◌++◌, length, get_or, drop, map, Option, Some, None, Result, Ok, Err, Bool, true, false, refl, sym, ap, ap₂, subst, ◌∙◌}
+use Rattle.std.proofs.Common.{◌≡◌, ◌≤◌, ◌<◌, ℕ, suc, ◌+◌, ◌-◌, arith, List, [], ◌∷◌, ◌++◌, length, get_or, drop, map, Option, Some, Result, Ok, Err, Bool, true, sym, ap, ap₂, subst, ◌∙◌}
 use Rattle.std.proofs.lemmas.List.{drop_more, drop_all}
 use Rattle.bs_tree.specs.declared.tree.Stmt.{Stmt}
 use Rattle.bs_tree.specs.Count.{statements_of}
 use Rattle.bs_semantics.specs.Value.{Value}
-use Rattle.bs_semantics.specs.Run.{Lookup, Run, Meant, State as PlainState, ends, halts, then_do, in_turn, turns, with, branch}
+use Rattle.bs_semantics.specs.Run.{Run, Meant, State as PlainState, ends, halts, then_do, in_turn, turns, with, branch}
 use Rattle.bs_history.specs.declared.trail.Trail.{Trail}
 use Rattle.bs_history.specs.declared.ground.Ground.{Ground}
 use Rattle.bs_history.specs.declared.ground.State.{State}
 use Rattle.bs_history.specs.declared.fault.HistoryFault.{HistoryFault}
 use Rattle.bs_history.specs.Control.{is_true}
-use Rattle.bs_history.specs.Ground.{IsReady, Left, Did, Runs, Goes, Finds, Steps, on, reached, stopped, state_of, program_of, means, mail_of}
-use Rattle.bs_history.proofs.Lefts.{then_left, runs_left, runs_steps, steps_onward, onward_err, Onward, choose, branched, tested, test_err}
+use Rattle.bs_history.specs.Ground.{Left, Did, Runs, Goes, Finds, Steps, on, state_of, program_of, means, mail_of}
+use Rattle.bs_history.proofs.Lefts.{then_left, runs_left, runs_steps, steps_onward, Onward, choose, branched, tested, test_err}
 use Rattle.bs_history.proofs.Meanings.{count_is}
 
 -- another way to say what is left

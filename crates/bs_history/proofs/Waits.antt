@@ -1,5 +1,5 @@
 -- The keys and messages of a `when`, one after the other.
-use Rattle.std.proofs.Common.{◌≡◌, ℕ, List, [], ◌∷◌, ◌++◌, Option, Some, None, Result, Ok, Err, refl, sym, ap, subst, ◌∙◌, ◌≤◌, ◌<◌, ◌+◌, ◌-◌, suc, zero, min, max, arith, le_refl, zero-le, length, get_or, drop, map, take, Bool, true, ◌&&◌}
+use Rattle.std.proofs.Common.{◌≡◌, ℕ, List, [], ◌∷◌, ◌++◌, Option, Some, None, Result, Ok, Err, refl, ap, ◌∙◌, ◌≤◌, ◌<◌, suc, zero, min, arith, zero-le, length, get_or, drop, map, Bool, true, ◌&&◌}
 use Rattle.std.specs.Prelude.{ℤ}
 use Rattle.std.proofs.lemmas.List.{drop_all}
 use Rattle.std.proofs.lemmas.Bool.{and_parts}
@@ -8,7 +8,7 @@ use Rattle.bs_tree.specs.declared.tree.Wait.{Wait}
 use Rattle.bs_tree.specs.declared.tree.Program.{Program}
 use Rattle.bs_check.specs.Known.{all_true, is_entry, is_known, is_scalar}
 use Rattle.bs_semantics.specs.Value.{Cells}
-use Rattle.bs_semantics.specs.Run.{Lookup, held, take_args, take_mail}
+use Rattle.bs_semantics.specs.Run.{take_args, take_mail}
 use Rattle.bs_check.specs.Fits.{is_wait_fit}
 use Rattle.bs_log.specs.declared.history.Key.{Key}
 use Rattle.bs_log.specs.declared.history.Message.{Message}

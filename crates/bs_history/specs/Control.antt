@@ -1,5 +1,5 @@
 -- How control goes on.
-use Rattle.std.specs.Prelude.{◌≡◌, ℤ, ℕ, Bool, true, not, ◌&&◌, List, Option, Some, None}
+use Rattle.std.specs.Prelude.{ℤ, ℕ, Bool, true, not, List, Option, Some, None}
 use Rattle.bs_tree.specs.declared.tree.Program.{Program}
 use Rattle.bs_check.specs.Fits.{is_set_fit}
 use Rattle.bs_semantics.specs.Layout.{place_of}

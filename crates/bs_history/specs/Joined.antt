@@ -1,5 +1,5 @@
 -- The parts of an overlap that are done.
-use Rattle.std.specs.Prelude.{List, [], Option, Some, None}
+use Rattle.std.specs.Prelude.{[], Option, Some, None}
 use Rattle.bs_tree.specs.declared.tree.Program.{Program}
 use Rattle.bs_block.specs.Env.{MadeFor}
 use Rattle.bs_semantics.specs.Run.{Run, State as PlainState}

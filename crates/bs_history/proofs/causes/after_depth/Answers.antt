@@ -1,5 +1,4 @@
-use Rattle.std.proofs.Common.{ap, sym, ◌∙◌, max, drop, arith, ◌+◌}
-use Rattle.std.proofs.lemmas.List.{drop_all}
+use Rattle.std.proofs.Common.{ap, ◌∙◌, max, drop, ◌+◌}
 use Rattle.bs_semantics.specs.Run.{greatest}
 use Rattle.bs_history.proofs.Paths.{greatest_step, greatest_done}
 use Rattle.bs_history.proofs.causes.after_depth.Goals as goal

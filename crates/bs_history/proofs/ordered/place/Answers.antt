@@ -1,5 +1,4 @@
-use Rattle.std.proofs.Common.{◌≡◌, ◌≤◌, ◌-◌, arith, le_refl, length, drop_of_length-le, take_all, ap, ap₂, sym, ◌∙◌, ◌++◌, [], reverse, take, drop, subst, zero-le}
-use Rattle.bs_semantics.specs.Run.{put}
+use Rattle.std.proofs.Common.{◌≡◌, ◌-◌, arith, le_refl, length, subst, zero-le}
 use Rattle.bs_history.proofs.Places.{PutBefore, put_less, put_equal, put_greater, put_first, put_last, take_last, drop_last}
 use Rattle.bs_history.proofs.ordered.place.Goals as goal
 

@@ -1,5 +1,5 @@
 use Rattle.std.proofs.Common.{◌≡◌, reverse}
-use Rattle.bs_semantics.specs.Run.{put, put_all}
+use Rattle.bs_semantics.specs.Run.{put_all}
 use Rattle.bs_history.proofs.ordered.put_items.Given as goal
 
 abbrev pub invariant-loop-item : goal.invariant-loop-item

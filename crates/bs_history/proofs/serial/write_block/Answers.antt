@@ -1,4 +1,4 @@
-use Rattle.std.proofs.Common.{arith, ◌≤◌, ◌+◌, length, sym, subst, ap}
+use Rattle.std.proofs.Common.{arith, length, ap}
 use Rattle.bs_history.proofs.Trails.{many_sends, few_blocks}
 use Rattle.bs_history.proofs.serial.write_block.Goals as goal
 

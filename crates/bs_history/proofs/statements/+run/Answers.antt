@@ -1,21 +1,18 @@
-use Rattle.std.proofs.Common.{ℕ, List, ◌≡◌, ◌≤◌, ◌-◌, ◌+◌, suc, true, false, Some, None, Ok, Err, map, rules, arith, refl, ap, sym, subst, ◌∙◌, le_refl, zero-le, ◌++◌, ◌∷◌, [], drop, length}
-use Rattle.bs_check.specs.Known.{all_true}
+use Rattle.std.proofs.Common.{ℕ, List, ◌+◌, suc, true, false, Some, None, Ok, Err, map, rules, arith, refl, ap, sym, subst, ◌∙◌, zero-le, ◌++◌, ◌∷◌, [], drop, length}
 use Rattle.bs_check.specs.Numbers.{StandsAt}
 use Rattle.bs_check.proofs.Standing.{one_at_least, rest_stands, alone_stands, when_stands, overlap_stands, for_stands, while_stands, then_stands, else_stands, seq_stands}
 use Rattle.bs_tree.specs.Count.{statements_in}
 use Rattle.bs_tree.specs.declared.tree.Stmt.TheVariants as v
 use Rattle.bs_semantics.specs.Value.{value_of}
-use Rattle.bs_semantics.specs.Run.{Run, State as PlainState, turns, assign, in_turn, ends, with, keys_of, ask, took, overlap}
+use Rattle.bs_semantics.specs.Run.{Run, State as PlainState, turns, assign, in_turn, with, keys_of, ask, took, overlap}
 use Rattle.bs_semantics.specs.Layout.{place_of}
 use Rattle.bs_block.proofs.Items.{each_left}
 use Rattle.bs_history.specs.Control.{step_of}
-use Rattle.bs_check.specs.Fits.{is_fit, are_fit}
-use Rattle.bs_history.specs.Trail.{so_far}
+use Rattle.bs_check.specs.Fits.{is_fit}
 use Rattle.bs_history.specs.Ground.{IsReady, Runs, Did, program_of, mail_of, means, state_of}
 use Rattle.bs_history.proofs.Lefts.{onward_err, runs_on, steps_long, goes_left}
 use Rattle.bs_history.proofs.Meanings.{statements_cons, for_does, while_does, when_does, overlap_does}
 use Rattle.bs_history.proofs.Branches.{if_long, if_stop, if_first, if_no_second, if_second}
-use Rattle.std.proofs.lemmas.Grind.{common_steps}
 use Rattle.bs_history.specs.Joined.{IsJoined, state_in}
 use Rattle.bs_history.proofs.Joins.{begins, not_empty, part_err, part_on, parts_done, joined_later, ready_later}
 use Rattle.bs_history.proofs.Turns.{next_item, list_on, list_next, turn_tested, turn_test_err, turn_run, turn_stepped, turn_next, turns_done, later}

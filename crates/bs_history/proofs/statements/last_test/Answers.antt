@@ -1,4 +1,4 @@
-use Rattle.std.proofs.Common.{rules, Some, None, true, false, ap, refl, ◌∙◌, []}
+use Rattle.std.proofs.Common.{rules, Some, None, true, false, ap, ◌∙◌, []}
 use Rattle.bs_semantics.specs.Run.{State as PlainState, halts, ends}
 use Rattle.bs_semantics.specs.Value.{value_of}
 use Rattle.bs_history.specs.Ground.{program_of, state_of}

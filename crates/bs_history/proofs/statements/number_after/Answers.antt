@@ -1,5 +1,4 @@
-use Rattle.std.proofs.Common.{◌≡◌, ◌+◌, [], arith}
-use Rattle.bs_tree.specs.Count.{statements_of}
+use Rattle.std.proofs.Common.{[], arith}
 use Rattle.bs_check.proofs.Standing.{end_found, is_number, one_at_least}
 use Rattle.bs_history.specs.Ground.{program_of}
 use Rattle.bs_history.proofs.statements.number_after.Goals as goal

@@ -1,4 +1,4 @@
-use Rattle.std.proofs.Common.{◌+◌, drop, ap, sym, subst, arith, ◌∙◌}
+use Rattle.std.proofs.Common.{◌+◌, drop, ap, sym, subst, arith}
 use Rattle.bs_tree.specs.Count.{statements_in}
 use Rattle.bs_check.specs.Numbers.{StandsAt}
 use Rattle.bs_check.proofs.Standing.{end_found, is_number, rest_stands}

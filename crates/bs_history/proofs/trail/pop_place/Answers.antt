@@ -1,4 +1,4 @@
-use Rattle.std.proofs.Common.{◌≡◌, ◌-◌, ◌++◌, ◌∷◌, [], ℕ, List, arith, ap, ◌∙◌, length, length-append, take, take_at}
+use Rattle.std.proofs.Common.{◌≡◌, ◌-◌, ◌∷◌, [], arith, ap, ◌∙◌, length, length-append, take, take_at}
 use Rattle.bs_history.proofs.trail.pop_place.Goals as goal
 
 pub returns : goal.returns

@@ -1,6 +1,4 @@
-use Rattle.std.proofs.Common.{◌≡◌, ◌++◌, drop, map}
-use Rattle.bs_semantics.specs.Run.{missing}
-use Rattle.bs_history.specs.Ground.{mail_of}
+use Rattle.std.proofs.Common.{◌≡◌, drop}
 use Rattle.bs_history.specs.Trail.{so_far, IsWithin}
 use Rattle.bs_history.specs.Waiting.{all_keys_asked}
 use Rattle.bs_history.proofs.waiting.write_asked.Given as goal

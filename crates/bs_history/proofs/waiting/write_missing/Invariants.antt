@@ -1,4 +1,4 @@
-use Rattle.std.proofs.Common.{◌≡◌, ◌++◌, drop, map}
+use Rattle.std.proofs.Common.{◌≡◌, drop}
 use Rattle.bs_semantics.specs.Run.{missing}
 use Rattle.bs_history.specs.Ground.{mail_of}
 use Rattle.bs_history.specs.Trail.{so_far, IsWithin}

@@ -1,4 +1,4 @@
-use Rattle.std.proofs.Common.{◌≡◌, ◌≤◌, ◌<◌, ◌+◌, arith, refl, ap, length, length-set, get_or, set, ◌∙◌}
+use Rattle.std.proofs.Common.{arith, refl, ap, length, length-set, get_or, ◌∙◌}
 use Rattle.std.specs.Prelude.{pos}
 use Rattle.bs_history.proofs.Takings.{span_begins, span_next}
 use Rattle.bs_history.proofs.writes.take_cells.Goals as goal
