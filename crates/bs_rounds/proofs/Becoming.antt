@@ -62,7 +62,7 @@ module _ (p : Program) (limit n : ℕ) (mails : List (List Message)) (marks : Li
         → length mails' ≡ length mails → length marks' ≡ length mails → IsPassed p limit n mails' marks' hs
     passes l asked blank unmarked mails' marks' posts mails_count marks_count = subst (IsPassed p limit n mails' marks') (sym is)
         (passed p limit n mails marks old at (subst (λ (hs : List History). (c : ℕ) → c < length hs → flag marks c ≡ true → Apart one_asked (history_at hs c).asked) is asked)
-            (flag blank) unmarked mails' marks' (subst (λ (hs : List History). ArePosted (sent_by marks hs) (held mails) (flag blank) (held mails') (flag marks')) is posts) (small_now l) mails_count marks_count)
+        (flag blank) unmarked mails' marks' (subst (λ (hs : List History). ArePosted (sent_by marks hs) (held mails) (flag blank) (held mails') (flag marks')) is posts) (small_now l) mails_count marks_count)
 
 pub get_same : {A : Type 0} (n c : ℕ) (x : A) → get_or (replicate n x) c x ≡ x
 get_same zero c x = refl

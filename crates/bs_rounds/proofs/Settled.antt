@@ -86,10 +86,10 @@ module _ (p : Program) (limit n : ℕ) (mails : List (List Message)) (marks : Li
   asked_twice k o = k.twice (at_each (λ h. Apart one_asked h.asked) (round p limit n) o.asked k.chare k.within)
 
   module _ (asked : (c : ℕ) → c < length (round p limit n) → flag marks c ≡ true → Apart one_asked (history_at (round p limit n) c).asked)
-    (blank : ℕ → Bool) (unmarked : (c : ℕ) → blank c ≡ false)
-    (mails' : List (List Message)) (marks' : List Bool)
-    (posts : ArePosted (sent_by marks (round p limit n)) (held mails) blank (held mails') (flag marks'))
-    (size : size_all (round p limit n) ≤ limit) (mails_count : length mails' ≡ length mails) (marks_count : length marks' ≡ length mails) where
+      (blank : ℕ → Bool) (unmarked : (c : ℕ) → blank c ≡ false)
+      (mails' : List (List Message)) (marks' : List Bool)
+      (posts : ArePosted (sent_by marks (round p limit n)) (held mails) blank (held mails') (flag marks'))
+      (size : size_all (round p limit n) ≤ limit) (mails_count : length mails' ≡ length mails) (marks_count : length marks' ≡ length mails) where
     within : (c : ℕ) → c < length (round p limit n) → c < p.chares
     within c l = subst (λ j. c < j) (round_count p limit n) l
 

@@ -56,11 +56,11 @@ at_itself true m o e = refl
 at_itself false m o e = absurd (cc)
 
 module _ (m : Message) (F : ℕ → Lookup) (f : ℕ → Bool) (G : ℕ → Lookup) (g : ℕ → Bool)
-  (free : F m.sent.to m.sent.key ≡ None)
-  (at_it : G m.sent.to ≡ with_message m (F m.sent.to))
-  (else_where : (c : ℕ) → (c ≡ m.sent.to → ⊥) → F c ≡ G c)
-  (marked_it : g m.sent.to ≡ true)
-  (marked_else : (c : ℕ) → (c ≡ m.sent.to → ⊥) → f c ≡ g c) where
+    (free : F m.sent.to m.sent.key ≡ None)
+    (at_it : G m.sent.to ≡ with_message m (F m.sent.to))
+    (else_where : (c : ℕ) → (c ≡ m.sent.to → ⊥) → F c ≡ G c)
+    (marked_it : g m.sent.to ≡ true)
+    (marked_else : (c : ℕ) → (c ≡ m.sent.to → ⊥) → f c ≡ g c) where
   free_at : (k : Key) → same_key m.sent.key k ≡ true → F m.sent.to k ≡ None
   free_at k s = ap (F m.sent.to) (sym (same_key_is m.sent.key k s)) ∙ free
 

@@ -29,7 +29,11 @@ pub(crate) struct Chares {
 
 impl Chares {
     /// The chares before the first round.
-    pub(crate) fn start(alloc: Global, accepted: &Accepted, limit: u64) -> Result<Chares, AllocError>
+    pub(crate) fn start(
+        alloc: Global,
+        accepted: &Accepted,
+        limit: u64,
+    ) -> Result<Chares, AllocError>
         ensures { IfOk result (λ chares. (chares.rounds ≡ 0) × IsAtRound accepted.now.program limit 0 chares.mails.items chares.fresh.items chares.histories.items × (chares.size ≡ size_all chares.histories.items)) }
     {
         let count = accepted.chares() as usize;

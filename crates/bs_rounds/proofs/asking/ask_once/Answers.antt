@@ -23,7 +23,7 @@ loop-chare-preserved c =
     let P = λ (k : _). flag c.args.fresh.now k ≡ true → Apart one_asked (history_at c.args.histories.now k).asked in
     let same = c.index-histories-chare.is ∙ get_or_default c.args.histories.now l.chare c.index-histories-chare.result no_history c.loop-chare-test.true in
     elim c.if-fresh-chare.branch [
-      then-fresh-chare+in_ok-are_apart w ↦ one_more P l.chare l.invariant (λ t. subst (Apart one_asked) (w.as_slice.ensures ∙ ap (λ h. h.asked) same) w.in_ok-are_apart.ensures)
+      | then-fresh-chare+in_ok-are_apart w ↦ one_more P l.chare l.invariant (λ t. subst (Apart one_asked) (w.as_slice.ensures ∙ ap (λ h. h.asked) same) w.in_ok-are_apart.ensures)
       | else-fresh-chare w ↦ one_more P l.chare l.invariant (λ t. absurd (false_is (flag c.args.fresh.now l.chare) w.if-fresh-chare.false t))
     ]
 

@@ -29,4 +29,4 @@ returns-in_ok-put-in-None-clause-posted c =
     let here = reads mails m.sent.to c.index.result.now m.sent.key c.requires.target c.index.ensures in
     let free : held mails m.sent.to m.sent.key ≡ None = sym here ∙ (sym c.get.ensures ∙ ap option_copied c.in-None.is) in
     put_one mails c.args.news.now.items m c.put.new.mail c.requires.marks c.requires.target free
-        (c.in_ok-put-in-None.ensures.put ∙ ap (λ ms. with_message m (lookup ms)) (c.index_mut.ensures.value ∙ get_or_default mails m.sent.to c.index_mut.result.now [] c.requires.target))
+    (c.in_ok-put-in-None.ensures.put ∙ ap (λ ms. with_message m (lookup ms)) (c.index_mut.ensures.value ∙ get_or_default mails m.sent.to c.index_mut.result.now [] c.requires.target))

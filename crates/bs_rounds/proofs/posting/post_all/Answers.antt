@@ -30,24 +30,24 @@ loop-chare-preserved c =
     let rest = sent_by (drop (l.chare + 1) c.args.fresh.now) (drop (l.chare + 1) c.args.histories.now) in
     let within : l.chare < length c.args.fresh.now = omega (arith, c.requires.counts, c.loop-chare-test.true) in
     elim c.if-fresh-chare.branch [
-      then-fresh-chare+in_ok-post_blocks w ↦
-        let ms = sends_of w.as_slice.result.now in
-        let next = next_marked c.args.fresh.now c.args.histories.now l.chare c.index-histories-chare.result w.as_slice.result.now within c.loop-chare-test.true c.index-histories-chare.is w.if-fresh-chare.true w.as_slice.ensures in
-        let done = w.in_ok-post_blocks.ensures in
-        rw (w.mails-is, w.news-is) (record {
-          mails = done.mails ∙ l.invariant.mails;
-          news = done.news ∙ l.invariant.news;
-          targets = same_for _ _ rest done.mails (rest_for (length l.mails.items) _ ms rest next l.invariant.targets);
-          posted = follows_on all _ _ _ ms rest (held l.mails.items) (flag l.news.items) next l.invariant.posted _ _ done.posted;
-        })
+      | then-fresh-chare+in_ok-post_blocks w ↦
+          let ms = sends_of w.as_slice.result.now in
+          let next = next_marked c.args.fresh.now c.args.histories.now l.chare c.index-histories-chare.result w.as_slice.result.now within c.loop-chare-test.true c.index-histories-chare.is w.if-fresh-chare.true w.as_slice.ensures in
+          let done = w.in_ok-post_blocks.ensures in
+          rw (w.mails-is, w.news-is) (record {
+            mails = done.mails ∙ l.invariant.mails;
+            news = done.news ∙ l.invariant.news;
+            targets = same_for _ _ rest done.mails (rest_for (length l.mails.items) _ ms rest next l.invariant.targets);
+            posted = follows_on all _ _ _ ms rest (held l.mails.items) (flag l.news.items) next l.invariant.posted _ _ done.posted;
+          })
       | else-fresh-chare w ↦
-        let next = next_unmarked c.args.fresh.now c.args.histories.now l.chare c.index-histories-chare.result within c.loop-chare-test.true c.index-histories-chare.is w.if-fresh-chare.false in
-        rw (w.mails-is, w.news-is) (record {
-          mails = l.invariant.mails;
-          news = l.invariant.news;
-          targets = λ m i. l.invariant.targets m (rw next i);
-          posted = λ r after new p. l.invariant.posted r after new (rw next p);
-        })
+          let next = next_unmarked c.args.fresh.now c.args.histories.now l.chare c.index-histories-chare.result within c.loop-chare-test.true c.index-histories-chare.is w.if-fresh-chare.false in
+          rw (w.mails-is, w.news-is) (record {
+            mails = l.invariant.mails;
+            news = l.invariant.news;
+            targets = λ m i. l.invariant.targets m (rw next i);
+            posted = λ r after new p. l.invariant.posted r after new (rw next p);
+          })
     ]
 
 pub returns-clause-posted : goal.returns-clause-posted

@@ -78,4 +78,4 @@ returns-clause-becomes c =
     let blank : c.in_ok-news.news.items ≡ replicate c.len.result false = c.in_ok-news.ensures.items_if_clones_equal (λ y h. h) in
     let count : length c.in_ok-news.news.items ≡ length s.mails.items = omega (arith, c.in_ok-news.ensures.len, c.len.ensures, s.mails.ok.0, c.in_ok-news.news.ok.0) in
     passes c.args.accepted.now.program c.args.limit s.rounds s.mails.items s.fresh.items s.histories.items c.requires.state _ is few asked c.in_ok-news.news.items
-        (λ k. ap (λ ms. flag ms k) blank ∙ get_same c.len.result k false) c.post_all.new.mails.items c.post_all.new.news.items posted c.in_ok-post_all.ensures.mails (c.in_ok-post_all.ensures.news ∙ count)
+    (λ k. ap (λ ms. flag ms k) blank ∙ get_same c.len.result k false) c.post_all.new.mails.items c.post_all.new.news.items posted c.in_ok-post_all.ensures.mails (c.in_ok-post_all.ensures.news ∙ count)
