@@ -1,7 +1,9 @@
 mod Asking
 mod Causes
+mod Entries
 mod Gathered
 mod Joined
+mod Keys
 mod Lengths
 mod Rows
 mod Whole

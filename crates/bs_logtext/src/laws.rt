@@ -1,14 +1,22 @@
 // Laws of the logs that emulations write. Each is a function without a body, whose contract is the law.
-ghost use Rattle.std.specs.Prelude.{ℕ, List, length, ◌≤◌, ◌<◌};
+ghost use Rattle.std.specs.Prelude.{ℕ, List, length, None, ◌≡◌, ◌≤◌, ◌<◌};
 ghost use Rattle.bs_tree.specs.declared.tree.Program.{Program};
 ghost use Rattle.bs_tree.specs.Count.{statements_in};
 ghost use Rattle.bs_log.specs.declared.history.History.{History};
 ghost use Rattle.bs_log.specs.Collected.{log_of};
 ghost use Rattle.bs_log.specs.Valid.{IsValid};
-ghost use Rattle.bs_semantics.specs.Rounds.{Closed};
-ghost use Rattle.bs_logtext.specs.Declared.{AreDeclared};
 ghost use Rattle.bs_log.specs.declared.log.Log.{Log};
+ghost use Rattle.bs_semantics.specs.Run.{Lookup, history};
+ghost use Rattle.bs_semantics.specs.Rounds.{Closed};
+ghost use Rattle.bs_check.specs.Refusal.{refusal};
+ghost use Rattle.bs_logtext.specs.Declared.{AreDeclared, AreEntries};
 ghost use Rattle.bs_logtext.specs.Text.{log_text};
+
+/// Each key that a chare of an accepted program sends, asks or waits for is of one of the program's
+/// entries, under every mail and at every limit.
+pub fn keys_are_declared()
+    ensures { (p : Program) (limit c : ℕ) (mail : Lookup) → refusal p ≡ None → AreEntries (length p.entries) (history p limit c mail) }
+{}
 
 /// The log of closed histories is valid, and so is that of the Clean round of a program, which is closed.
 ///

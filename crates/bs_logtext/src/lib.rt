@@ -6,7 +6,7 @@
 mod laws;
 mod writing;
 
-pub use laws::{logs_are_valid, texts_are_small};
+pub use laws::{keys_are_declared, logs_are_valid, texts_are_small};
 pub use writing::write_log;
 
 #[cfg(test)]
