@@ -2,6 +2,7 @@ mod Asking
 mod Causes
 mod Entries
 mod Gathered
+mod InWords
 mod Joined
 mod Keys
 mod Lengths

@@ -4,9 +4,11 @@
 #![tactic(auto)]
 
 mod laws;
+mod words;
 mod writing;
 
 pub use laws::{keys_are_declared, logs_are_valid, texts_are_small};
+pub use words::has_words;
 pub use writing::write_log;
 
 #[cfg(test)]
