@@ -8,3 +8,4 @@ mod Keys
 mod Lengths
 mod Rows
 mod Whole
+mod Written

@@ -84,7 +84,7 @@ before_is a b = by_chare (nat_cmp a.chare b.chare) refl
 
 -- the histories are those of the definition
 
-at_under : (f : ℕ → History) (n k j : ℕ) (h : History) → IsAt (map f (from_to k n)) j h → f (k + j) ≡ h
+pub at_under : (f : ℕ → History) (n k j : ℕ) (h : History) → IsAt (map f (from_to k n)) j h → f (k + j) ≡ h
 at_under f zero k j h a = absurd a
 at_under f (suc n) k zero h a = let e : k + 0 ≡ k = omega arith in ap f e ∙ a
 at_under f (suc n) k (suc j) h a = let e : k + suc j ≡ k + 1 + j = omega arith in ap f e ∙ at_under f n (k + 1) j h a
@@ -94,7 +94,7 @@ member_of [] j h a = absurd a
 member_of (x ∷ xs) zero h a = inl (sym a)
 member_of (x ∷ xs) (suc j) h a = inr (member_of xs j h a)
 
-place_of : (hs : List History) (h : History) → Mem h hs → (j : ℕ) × IsAt hs j h
+pub place_of : (hs : List History) (h : History) → Mem h hs → (j : ℕ) × IsAt hs j h
 place_of [] h m = absurd m
 place_of (x ∷ xs) h (inl e) = (0, sym e)
 place_of (x ∷ xs) h (inr m) = let r = place_of xs h m in (suc r.0, r.1)
@@ -156,12 +156,12 @@ chares_far : (hs : List History) (c d : ℕ) (a b : Block) → c < d → (row_of
 unfolding row_of
 chares_far hs c d a b l = omega arith
 
-map_mem : {A B : Type 0} (f : A → B) (xs : List A) (x : A) → Mem x xs → Mem (f x) (map f xs)
+pub map_mem : {A B : Type 0} (f : A → B) (xs : List A) (x : A) → Mem x xs → Mem (f x) (map f xs)
 map_mem f [] x m = absurd m
 map_mem f (y ∷ ys) x (inl e) = inl (ap f e)
 map_mem f (y ∷ ys) x (inr m) = inr (map_mem f ys x m)
 
-row_member : (all hs : List History) (k j c : ℕ) (h : History) (x : Block) → c ≡ k + j → IsAt hs j h → Mem x h.blocks → Mem (row_of all c x) (rows_from all k hs)
+pub row_member : (all hs : List History) (k j c : ℕ) (h : History) (x : Block) → c ≡ k + j → IsAt hs j h → Mem x h.blocks → Mem (row_of all c x) (rows_from all k hs)
 row_member all [] k j c h x e t m = absurd t
 row_member all (y ∷ ys) k zero c h x e t m =
     let here : k ≡ c = omega arith in

@@ -1,5 +1,5 @@
 // Texts of logs that were worked out by hand.
-use crate::write_log;
+use crate::{has_words, write_log};
 use bs_log::{Key, Log, MailRef, Row, Sent, TrapKind, TrapRow, WaitRow, valid};
 use bs_tree::List;
 use std::alloc::{AllocError, Global};
@@ -53,6 +53,7 @@ fn receiver(alloc: Global, chare: u32, after: u32, row: u32) -> Result<Row, Allo
 fn expect(rt: &(impl Abort + AllocGlobal), log: &Log, want: &str) -> Result<(), Fail> {
     let is_valid = valid(log);
     assert!(rt; is_valid);
+    has_words(log);
     assert_eq!(rt; write_log(rt.alloc(), log)?.as_slice(), want.as_bytes());
     Ok(())
 }
