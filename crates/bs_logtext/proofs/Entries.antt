@@ -78,13 +78,13 @@ module _ (p : Program) where
   step_keeps : (t : Tally) (f : Acting) → Good t → Keeps f → GoodDone (stepped t f)
   step_keeps t f g h = stepped_if (nat_lt t.steps 100000) t f (h (record t { steps = t.steps + 1 }) g)
 
+  first_keeps : (d : Done) (f : Acting) → GoodDone d → Keeps f → GoodDone (with_value d f)
+  first_keeps (Err k) f g h t e = absurd (cc)
+  first_keeps (Ok x) f g h t e = h x (g x refl) t e
+
   times_keep : (n : ℕ) (ds : List Acting) → Keeps (do_all ds) → Keeps (times n ds)
   times_keep zero ds h t g = done t g
-  times_keep (suc n) ds h t g = step_keeps t _ g (λ u k. value_keeps_of (do_all ds u) (times n ds) (λ v e. times_keep n ds h v (h u k v e)))
-    where
-      value_keeps_of : (d : Done) (f : Acting) → ((x : Tally) → d ≡ Ok x → GoodDone (f x)) → GoodDone (with_value d f)
-      value_keeps_of (Err k) f h t e = absurd (cc)
-      value_keeps_of (Ok x) f h t e = h x refl t e
+  times_keep (suc n) ds h t g = step_keeps t _ g (λ u k. first_keeps (do_all ds u) (times n ds) (h u k) (times_keep n ds h))
 
   choose_if : (b : Bool) (f g : Acting) (t : Tally) → GoodDone (f t) → GoodDone (g t) → GoodDone (if b then g t else f t)
   choose_if true f g t h k = k
@@ -118,10 +118,6 @@ module _ (p : Program) where
 
     abbrev parcel : NameId → ℤ → List ℤ → ℕ → ℕ → ℕ → Parcel
     parcel entry r vs to bytes offset = record { sent = record { to = to; key = record { entry = entry_of p entry; reference = r }; bytes = bytes; offset = offset }; args = vs }
-
-    first_keeps : (d : Done) (f : Acting) → GoodDone d → Keeps f → GoodDone (with_value d f)
-    first_keeps (Err k) f g h t e = absurd (cc)
-    first_keeps (Ok x) f g h t e = h x (g x refl) t e
 
     list_keeps : (es : Those) → known_in es ≡ true → Keeps (do_all (acting_in es))
     list_keeps [] h t g = done t g
