@@ -151,12 +151,24 @@ fn division_truncates(rt: HostRuntime) -> Result<(), Fail> {
     assert_eq!(rt; value(alloc, &quotient)?, Ok(-3));
     let remainder = two(alloc, Op2::Rem, negative(alloc, 7)?, Expr::Number(2))?;
     assert_eq!(rt; value(alloc, &remainder)?, Ok(-1));
+    Ok(())
+}
+
+// -9223372036854775807 - 1 and, after the operator, -1.
+fn least_by_minus_one(alloc: Global, op: Op2) -> Result<Expr, AllocError>
+    ensures { IfOk result (λ expr. IsTrue (is_known example expr)) }
+{
     let least = two(alloc, Op2::Sub, negative(alloc, i64::MAX)?, Expr::Number(1))?;
-    let beyond = two(alloc, Op2::Div, least, negative(alloc, 1)?)?;
-    assert_eq!(rt; value(alloc, &beyond)?, Err(TrapKind::Overflow));
-    let least = two(alloc, Op2::Sub, negative(alloc, i64::MAX)?, Expr::Number(1))?;
-    let none_left = two(alloc, Op2::Rem, least, negative(alloc, 1)?)?;
-    assert_eq!(rt; value(alloc, &none_left)?, Err(TrapKind::Overflow));
+    two(alloc, op, least, negative(alloc, 1)?)
+}
+
+#[test]
+fn the_least_number_by_minus_one(rt: HostRuntime) -> Result<(), Fail> {
+    let alloc = rt.alloc();
+    let quotient = least_by_minus_one(alloc, Op2::Div)?;
+    assert_eq!(rt; value(alloc, &quotient)?, Err(TrapKind::Overflow));
+    let remainder = least_by_minus_one(alloc, Op2::Rem)?;
+    assert_eq!(rt; value(alloc, &remainder)?, Err(TrapKind::Overflow));
     Ok(())
 }
 

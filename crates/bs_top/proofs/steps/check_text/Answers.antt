@@ -22,4 +22,4 @@ returns-clause-told g c =
     let old = (g.D.Desk.world c.args.desk.now).files in
     each old old _ _ refl (λ files h.
     prints files c.args.name.now c.in_ok-accepted.accepted.program h (said_of c.in_ok-printed.field-0)
-    (c.in_ok-printed.ensures ∙ ap (λ q. record { end = end.Settled; text = text_of q }) c.program.ensures)) c.in_ok-accepted.ensures.told
+    (c.in_ok-printed.ensures ∙ ap (λ q. record { end = end.Settled; text = text_of q }) c.program.ensures.value)) c.in_ok-accepted.ensures.told
