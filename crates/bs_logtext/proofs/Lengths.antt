@@ -89,7 +89,7 @@ six_small a b c d e f j k m p q r s t u w = simp length-append (omega arith)
 
 -- a number that names an item is at most the length
 
-got : {A : Type 0} (P : A → Type 0) (o : Option A) → Holds P o → (x : A) × (o ≡ Some x) × P x
+pub got : {A : Type 0} (P : A → Type 0) (o : Option A) → Holds P o → (x : A) × (o ≡ Some x) × P x
 got P None h = absurd h
 got P (Some x) h = (x, refl, h)
 
@@ -98,23 +98,23 @@ get_member [] i x e = absurd (cc)
 get_member (y ∷ ys) zero x e = inl (let q : y ≡ x = cc in sym q)
 get_member (y ∷ ys) (suc i) x e = inr (get_member ys i x e)
 
-record Named {A : Type 0} (xs : List A) (n : ℕ) (x : A) : Type 0 where
-  within : n ≤ length xs
-  is_in : Mem x xs
+pub record Named {A : Type 0} (xs : List A) (n : ℕ) (x : A) : Type 0 where
+  pub within : n ≤ length xs
+  pub is_in : Mem x xs
 
-named : {A : Type 0} (xs : List A) (n : ℕ) (x : A) → numbered xs n ≡ Some x → Named xs n x
+pub named : {A : Type 0} (xs : List A) (n : ℕ) (x : A) → numbered xs n ≡ Some x → Named xs n x
 named {A} xs n x = by (n == 0)
   where
     by : (b : Bool) → (if b then None else slice_get xs (n - 1)) ≡ Some x → Named xs n x
     by true e = absurd (cc)
     by false e = let w = slice_get_within xs (n - 1) x e in record { within = omega (arith, w); is_in = get_member xs (n - 1) x e }
 
-one_of_sum : {A : Type 0} (f : A → ℕ) (xs : List A) (x : A) → Mem x xs → f x ≤ sum_by f xs
+pub one_of_sum : {A : Type 0} (f : A → ℕ) (xs : List A) (x : A) → Mem x xs → f x ≤ sum_by f xs
 one_of_sum f [] x m = absurd m
 one_of_sum f (y ∷ ys) x (inl e) = let s = sum_by-cons f y ys in let q = ap f e in omega (arith, s, q)
 one_of_sum f (y ∷ ys) x (inr m) = let s = sum_by-cons f y ys in let r = one_of_sum f ys x m in omega (arith, s, r)
 
-few_rows : (rows : List Row) → length rows ≤ sum_by row_lines rows
+pub few_rows : (rows : List Row) → length rows ≤ sum_by row_lines rows
 few_rows [] = omega arith
 few_rows (r ∷ rs) = let s = sum_by-cons row_lines r rs in let more = few_rows rs in omega (arith, s, more)
 

@@ -5,7 +5,7 @@ mod Gathered
 mod InWords
 mod Joined
 mod Keys
-mod Lengths
+pub mod Lengths
 mod Rows
 mod Whole
 mod Written

@@ -12,9 +12,17 @@ use Rattle.bs_log.specs.declared.log.TrapRow.{TrapRow}
 use Rattle.bs_log.specs.declared.log.WaitRow.{WaitRow}
 use Rattle.bs_log.specs.declared.log.Log.{Log}
 
+-- the version
+abbrev pub version_line : List ℕ
+version_line = codes "bslog 1\n"
+
 -- how many chares, entries and rows there are
+abbrev pub numbers_line : ℕ → ℕ → ℕ → List ℕ
+numbers_line chares entries rows = codes "chares " ++ decimal chares ++ codes " entries " ++ decimal entries ++ codes " rows " ++ decimal rows ++ codes "\n"
+
+-- those of a log
 abbrev pub counts_line : Log → List ℕ
-counts_line log = codes "chares " ++ decimal log.chares ++ codes " entries " ++ decimal log.entries ++ codes " rows " ++ decimal (length log.rows) ++ codes "\n"
+counts_line log = numbers_line log.chares log.entries (length log.rows)
 
 -- a row: its chare, its statement, its depth and its cost
 abbrev pub row_line : Row → List ℕ
@@ -63,12 +71,16 @@ wait_line wait =
     codes "wait " ++ decimal wait.chare ++ codes " " ++ decimal wait.stmt
     ++ codes " " ++ decimal wait.key.entry ++ codes " " ++ signed_decimal wait.key.reference ++ codes "\n"
 
+-- nothing follows
+abbrev pub end_line : List ℕ
+end_line = codes "end\n"
+
 -- the whole text: the version, the counts, the rows, the traps, the waits, and the end
 unfoldable pub log_text : Log → List ℕ
 log_text log =
-    codes "bslog 1\n"
+    version_line
     ++ counts_line log
     ++ flat_map row_text log.rows
     ++ flat_map trap_line log.traps
     ++ flat_map wait_line log.waits
-    ++ codes "end\n"
+    ++ end_line

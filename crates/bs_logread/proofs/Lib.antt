@@ -1,0 +1,14 @@
+pub mod Cuts
+pub mod Body
+pub mod Fields
+pub mod Taken
+pub mod Again
+pub mod Ends
+pub mod Spelling
+pub mod Steps
+pub mod SoFar
+pub mod Compared
+pub mod Inside
+pub mod Back
+pub mod Kept
+pub mod Unique
