@@ -21,7 +21,7 @@ use Rattle.bs_model.specs.declared.candidates.Best.{Best}
 use Rattle.bs_model.specs.declared.candidates.Next.{Next}
 use Rattle.bs_model.specs.declared.state.State.{State}
 use Rattle.bs_model.specs.Book.{at_key, found}
-use Rattle.bs_model.specs.Machine.{machine_of}
+use Rattle.bs_times.specs.Machine.{machine_of}
 use Rattle.bs_model.specs.Next.{IsBest, IsBestAt, IsLeast, IsLeastAt, IsUpTo, next_of, best_among}
 use Rattle.bs_model.specs.Ready.{candidate_in}
 use Rattle.bs_model.specs.State.{Follows, begun_of}

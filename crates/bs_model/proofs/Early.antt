@@ -15,7 +15,7 @@ use Rattle.bs_semantics.specs.Reached.{IsReached, begins, goes_on}
 use Rattle.bs_semantics.proofs.Find.{found_at}
 use Rattle.bs_semantics.proofs.Proper.{run_proper}
 use Rattle.bs_semantics.proofs.Reached.{reached_blocks}
-use Rattle.bs_model.specs.Machine.{machine_of}
+use Rattle.bs_times.specs.Machine.{machine_of}
 use Rattle.bs_model.proofs.Places.{mem_get}
 
 greatest_low : {A : Type 0} (f : A → ℕ) (k : ℕ) (xs : List A) → ((x : A) → Mem x xs → f x ≤ k) → greatest f xs ≤ k

@@ -12,7 +12,7 @@ use Rattle.bs_semantics.specs.Serial.{Started, find, end_found, arrival_found, a
 use Rattle.bs_model.specs.declared.book.Begun.{Begun}
 use Rattle.bs_model.specs.declared.book.Book.{Book}
 use Rattle.bs_model.specs.Book.{found}
-use Rattle.bs_model.specs.Machine.{machine_of}
+use Rattle.bs_times.specs.Machine.{machine_of}
 use Rattle.bs_model.specs.Ready.{later, ends_in, arrival_of_send, arrival_at, arrivals_in, ready_where, ready_unless, candidate_in}
 use Rattle.bs_model.specs.State.{begun_of}
 

@@ -19,7 +19,7 @@ use Rattle.bs_semantics.proofs.Sorted.{put_all_member}
 use Rattle.bs_model.specs.declared.book.Begun.{Begun}
 use Rattle.bs_model.specs.declared.state.State.{State}
 use Rattle.bs_model.specs.Book.{keyed}
-use Rattle.bs_model.specs.Machine.{machine_of}
+use Rattle.bs_times.specs.Machine.{machine_of}
 use Rattle.bs_model.specs.Next.{IsLeast}
 use Rattle.bs_model.specs.State.{Follows, entry_of}
 use Rattle.bs_model.proofs.Choosing.{best_for}

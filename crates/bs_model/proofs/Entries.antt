@@ -13,7 +13,7 @@ use Rattle.bs_semantics.specs.Serial.{Started, same_path, find, started_cmp}
 use Rattle.bs_semantics.proofs.Sorted.{put_all_member}
 use Rattle.bs_model.specs.declared.book.Begun.{Begun}
 use Rattle.bs_model.specs.Book.{at_key, put_key}
-use Rattle.bs_model.specs.Machine.{machine_of}
+use Rattle.bs_times.specs.Machine.{machine_of}
 use Rattle.bs_model.specs.State.{begun_of, entry_of}
 
 abbrev cmp_keys : List ℕ → List ℕ → Ordering

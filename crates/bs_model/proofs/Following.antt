@@ -24,7 +24,7 @@ use Rattle.bs_model.specs.declared.candidates.Best.{Best}
 use Rattle.bs_model.specs.declared.candidates.Next.{Next}
 use Rattle.bs_model.specs.declared.state.State.{State}
 use Rattle.bs_model.specs.Book.{at_key, found, keyed, put_key}
-use Rattle.bs_model.specs.Machine.{machine_of}
+use Rattle.bs_times.specs.Machine.{machine_of}
 use Rattle.bs_model.specs.Mails.{mail_at, AreDelivered, AreHistories, AreKept, CanDeliver}
 use Rattle.bs_model.specs.Next.{AreBest, IsLeastAt, best_among, best_at}
 use Rattle.bs_model.specs.Ready.{AreBooked, IsBooked, IsTimeable}

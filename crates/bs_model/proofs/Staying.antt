@@ -24,7 +24,7 @@ use Rattle.bs_semantics.proofs.Starting.{sent_by}
 use Rattle.bs_model.specs.declared.book.Book.{Book}
 use Rattle.bs_model.specs.declared.candidates.Best.{Best}
 use Rattle.bs_model.specs.Book.{found as in_book}
-use Rattle.bs_model.specs.Machine.{machine_of}
+use Rattle.bs_times.specs.Machine.{machine_of}
 use Rattle.bs_model.specs.Next.{best_among}
 use Rattle.bs_model.specs.Ready.{later, ends_in, arrival_at, arrivals_in, ready_where, ready_unless, candidate_in}
 use Rattle.bs_model.specs.State.{begun_of}

@@ -22,7 +22,7 @@ use Rattle.bs_semantics.proofs.Members.{mem_left, mem_right}
 use Rattle.bs_semantics.proofs.Chains.{closed_low}
 use Rattle.bs_semantics.proofs.Confluence.{clean_closed}
 use Rattle.bs_semantics.proofs.Reached.{reached_sent, reached_clean}
-use Rattle.bs_model.specs.Machine.{machine_of}
+use Rattle.bs_times.specs.Machine.{machine_of}
 use Rattle.bs_model.specs.Mails.{mail_at, mail_in, mail_after, AreDelivered, AreKept, AreShallow, AreShort, CanDeliver, history_at}
 use Rattle.bs_model.proofs.Early.{IsLow, reached_low}
 use Rattle.bs_model.proofs.Places.{at_number}

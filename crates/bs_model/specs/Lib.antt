@@ -1,5 +1,4 @@
 pub mod Book
-pub mod Machine
 pub mod Mails
 pub mod Next
 pub mod Ready

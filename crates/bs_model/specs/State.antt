@@ -11,7 +11,7 @@ use Rattle.bs_model.specs.declared.book.Begun.{Begun}
 use Rattle.bs_model.specs.declared.book.Book.{Book}
 use Rattle.bs_model.specs.declared.state.State.{State}
 use Rattle.bs_model.specs.Book.{keyed}
-use Rattle.bs_model.specs.Machine.{machine_of}
+use Rattle.bs_times.specs.Machine.{machine_of}
 use Rattle.bs_model.specs.Mails.{mail_at}
 use Rattle.bs_model.specs.Next.{AreBest}
 

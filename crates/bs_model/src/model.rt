@@ -3,7 +3,7 @@ ghost use Rattle.std.specs.Prelude.{◌≡◌, ◌≤◌, ℕ, IfOk};
 ghost use Rattle.bs_report.specs.Report.{IsReportable};
 ghost use Rattle.bs_semantics.specs.Rounds.{CleanAt};
 ghost use Rattle.bs_semantics.specs.Serial.{IsSerial, timed};
-ghost use Rattle.bs_model.specs.Machine.{machine_of};
+ghost use Rattle.bs_times.specs.Machine.{machine_of};
 ghost use Rattle.bs_model.specs.Simulated.{IsDecided, IsSimulated};
 
 use crate::simulated::Simulated;

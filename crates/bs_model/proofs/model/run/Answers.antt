@@ -5,7 +5,7 @@ use Rattle.bs_report.specs.Report.{IsReportable}
 use Rattle.bs_semantics.specs.Serial.{IsSerial, timed}
 use Rattle.bs_model.specs.declared.book.Begun.{Begun}
 use Rattle.bs_model.specs.Book.{keyed}
-use Rattle.bs_model.specs.Machine.{machine_of}
+use Rattle.bs_times.specs.Machine.{machine_of}
 use Rattle.bs_model.specs.Next.{IsLeast}
 use Rattle.bs_model.proofs.Choosing.{chares_here}
 use Rattle.bs_model.proofs.Counts.{few}

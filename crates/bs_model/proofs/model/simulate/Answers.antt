@@ -1,5 +1,5 @@
 use Rattle.bs_semantics.proofs.SomeSerial.{unclean_answer}
-use Rattle.bs_model.specs.Machine.{machine_of}
+use Rattle.bs_times.specs.Machine.{machine_of}
 use Rattle.bs_model.proofs.Deciding.{never_clean, when_clean}
 use Rattle.bs_model.proofs.model.simulate.Goals as goal
 

@@ -1,0 +1,9 @@
+pub mod Caused
+pub mod States
+pub mod Rows
+pub mod Nets
+pub mod Readies
+pub mod Runs
+pub mod Whole
+pub mod Verdicts
+pub mod Example
