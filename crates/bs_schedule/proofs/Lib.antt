@@ -1,0 +1,7 @@
+pub mod Places
+mod Keys
+mod Considered
+mod Course
+mod Depending
+pub mod Relabel
+pub mod Lines

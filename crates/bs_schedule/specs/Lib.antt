@@ -1,0 +1,5 @@
+pub mod Plan
+pub mod Queue
+pub mod Dependants
+pub mod Whole
+pub mod Local

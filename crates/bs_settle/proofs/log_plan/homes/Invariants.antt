@@ -1,0 +1,6 @@
+use Rattle.std.proofs.Common.{◌≡◌}
+use Rattle.bs_settle.specs.Planned.{by_row, net_on}
+use Rattle.bs_settle.proofs.log_plan.homes.Given as goal
+
+abbrev pub invariant-loop-place : goal.invariant-loop-place
+invariant-loop-place l = l.homes ≡ by_row 0 (net_on l.log l.machine).home l.place
