@@ -1,0 +1,5 @@
+pub mod News
+pub mod Asked
+pub mod Chare
+pub mod Fault
+pub mod State

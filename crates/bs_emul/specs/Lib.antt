@@ -1,0 +1,4 @@
+pub mod Reached
+pub mod Stop
+pub mod World
+pub mod Emulated
