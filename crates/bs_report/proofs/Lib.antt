@@ -1,3 +1,4 @@
 mod Rising
 mod LoadLemmas
 mod Joined
+pub mod SideBySide

@@ -10,6 +10,10 @@ use Rattle.bs_lex.specs.declared.token.LexFault.TheVariants as lex
 use Rattle.bs_parse.specs.declared.text.ParseFault.{ParseFault}
 use Rattle.bs_parse.specs.declared.text.ParseFault.TheVariants as parse
 use Rattle.bs_log.specs.declared.history.Key.{Key}
+use Rattle.bs_logcheck.specs.declared.rule.LogRule.{LogRule}
+use Rattle.bs_logcheck.specs.declared.rule.LogRule.TheVariants as rule
+use Rattle.bs_logread.specs.declared.fault.LogFault.{LogFault}
+use Rattle.bs_logread.specs.declared.fault.LogFault.TheVariants as read
 use Rattle.bs_machine.specs.Keys.{table_of, name_of}
 use Rattle.bs_machine.specs.declared.fault.MachineFault.{MachineFault}
 use Rattle.bs_machine.specs.declared.fault.MachineFault.TheVariants.{NotToml, UnknownKey, Missing, OutOfRange, Memory}
@@ -18,7 +22,7 @@ use Rattle.bs_machine.specs.declared.key.MachineKey.{MachineKey}
 use Rattle.bs_rounds.specs.declared.answer.At.{At}
 use Rattle.bs_rounds.specs.declared.answer.Twice.{Twice}
 use Rattle.bs_report.specs.declared.faults.Fault.{Fault}
-use Rattle.bs_report.specs.declared.faults.Fault.TheVariants.{BadWords, BadProgram, CheckFailed, BadMachine, BadPlace, Ambiguous, TooLong, TooBig}
+use Rattle.bs_report.specs.declared.faults.Fault.TheVariants.{BadWords, BadProgram, CheckFailed, BadMachine, BadPlace, BadLog, Ambiguous, TooLong, TooBig}
 
 -- the place is a byte of the text, counted from 0
 abbrev pub program_line : ℕ → List ℕ → List ℕ
@@ -76,6 +80,23 @@ machine_text Memory = []
 abbrev pub place_text : PlaceLength → List ℕ
 place_text length = codes "bad machine: place length " ++ (decimal length.given ++ (codes " needs " ++ (decimal length.needed ++ codes "\n")))
 
+-- the rule that a line of a log breaks
+abbrev pub log_rule_word : LogRule → List ℕ
+log_rule_word rule.BadLine = codes "bad line"
+log_rule_word rule.BadReference = codes "bad reference"
+log_rule_word rule.BadDepth = codes "bad depth"
+log_rule_word rule.TwiceUsed = codes "twice used"
+log_rule_word rule.Limits = codes "limits"
+
+-- lines are counted from 1
+abbrev pub log_line : ℕ → LogRule → List ℕ
+log_line line why = codes "bad log: line " ++ (decimal line ++ (codes " " ++ (log_rule_word why ++ codes "\n")))
+
+-- want of memory has no line
+abbrev pub log_text : LogFault → List ℕ
+log_text (read.Refused line why) = log_line line why
+log_text read.Memory = []
+
 -- a statement of a chare; chares are counted from 0, statements from 1
 abbrev pub at_text : At → List ℕ
 at_text at = codes "chare " ++ decimal at.chare ++ codes " stmt " ++ decimal at.stmt
@@ -99,6 +120,7 @@ fault_text (BadProgram fault) = parse_text fault
 fault_text (CheckFailed fault) = check_text fault
 fault_text (BadMachine fault) = machine_text fault
 fault_text (BadPlace length) = place_text length
+fault_text (BadLog fault) = log_text fault
 fault_text (Ambiguous twice) = twice_text twice
 fault_text (TooLong limit) = codes "too long: limit " ++ decimal limit ++ codes "\n"
 fault_text (TooBig limit) = codes "too big: limit " ++ decimal limit ++ codes " bytes\n"

@@ -1,4 +1,5 @@
 pub mod End
 pub mod Fault
 pub mod Loads
+pub mod Outcomes
 pub mod Report

@@ -1,10 +1,12 @@
 // Why a command is refused, and the line that says so.
 ghost use Rattle.std.specs.Prelude.{◌≡◌, ◌++◌, IfOk, OnOk, string_bytes};
-ghost use Rattle.bs_report.specs.Fault.{at_text, check_line, check_text, fault_text, interference_line, key_of_chare, machine_text, parse_text, place_text, program_line as program_line_of, twice_text, twice_word as twice_word_of};
+ghost use Rattle.bs_report.specs.Fault.{at_text, check_line, check_text, fault_text, interference_line, key_of_chare, log_line as log_line_of, log_rule_word, log_text, machine_text, parse_text, place_text, program_line as program_line_of, twice_text, twice_word as twice_word_of};
 
 use bs_check::{CheckFault, Rule};
 use bs_lex::LexFault;
 use bs_log::Key;
+use bs_logcheck::LogRule;
+use bs_logread::LogFault;
 use bs_machine::{MachineFault, PlaceLength};
 use bs_parse::ParseFault;
 use bs_rounds::{At, Twice};
@@ -24,6 +26,8 @@ pub enum Fault {
     BadMachine(MachineFault),
     /// The machine's list of homes has another length than there are chares.
     BadPlace(PlaceLength),
+    /// The log's file is the text of no valid log. Want of memory has no line, and never stands here.
+    BadLog(LogFault),
     /// A chare is sent one key twice, or asks for one key twice.
     Ambiguous(Twice),
     /// The size of the run is above this limit.
@@ -42,6 +46,7 @@ pub fn fault_line(alloc: Global, fault: &Fault) -> Result<Vec<u8>, AllocError>
         Fault::CheckFailed(fault) => check_failed_line(alloc, *fault),
         Fault::BadMachine(fault) => machine_line(alloc, *fault),
         Fault::BadPlace(length) => place_line(alloc, *length),
+        Fault::BadLog(fault) => log_line(alloc, *fault),
         Fault::Ambiguous(twice) => ambiguous_line(alloc, *twice),
         Fault::TooLong(limit) => {
             let line = format!(in alloc; "too long: limit {limit}\n")?;
@@ -140,6 +145,35 @@ fn place_line(alloc: Global, length: PlaceLength) -> Result<Vec<u8>, AllocError>
     let PlaceLength { given, needed } = length;
     let line = format!(in alloc; "bad machine: place length {given} needs {needed}\n")?;
     Ok(line.into_bytes())
+}
+
+fn log_line(alloc: Global, fault: LogFault) -> Result<Vec<u8>, AllocError>
+    ensures { IfOk result (λ line. line.items ≡ log_text fault) }
+{
+    match fault {
+        LogFault::Refused(line, why) => log_rule_line(alloc, line, why),
+        LogFault::Memory => Ok(Vec::new(alloc)),
+    }
+}
+
+fn log_rule_line(alloc: Global, line: u64, why: LogRule) -> Result<Vec<u8>, AllocError>
+    ensures { IfOk result (λ text. text.items ≡ log_line_of line why) }
+{
+    let why = rule_word(why);
+    let text = format!(in alloc; "bad log: line {line} {why}\n")?;
+    Ok(text.into_bytes())
+}
+
+fn rule_word(rule: LogRule) -> &'static str
+    ensures { result.now ≡ log_rule_word rule }
+{
+    match rule {
+        LogRule::BadLine => "bad line",
+        LogRule::BadReference => "bad reference",
+        LogRule::BadDepth => "bad depth",
+        LogRule::TwiceUsed => "twice used",
+        LogRule::Limits => "limits",
+    }
 }
 
 fn ambiguous_line(alloc: Global, twice: Twice) -> Result<Vec<u8>, AllocError>

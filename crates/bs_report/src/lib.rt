@@ -6,11 +6,13 @@
 
 mod ending;
 mod faults;
+mod outcomes;
 mod processors;
 mod text;
 
 pub use ending::end;
 pub use faults::{Fault, fault_line};
+pub use outcomes::outcome;
 pub use processors::each_processor_once;
 pub use text::report;
 

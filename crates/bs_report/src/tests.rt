@@ -6,6 +6,8 @@ use crate::{Fault, end, fault_line, report};
 use bs_check::{CheckFault, Rule};
 use bs_lex::{LexFault, TokenKind};
 use bs_log::{End, Key, OutRow, Outcome, TrapKind, TrapRow, WaitRow};
+use bs_logcheck::LogRule;
+use bs_logread::LogFault;
 use bs_machine::{MachineFault, MachineKey, PlaceLength};
 use bs_parse::ParseFault;
 use bs_rounds::{At, Twice};
@@ -339,6 +341,14 @@ fn fault_lines(rt: HostRuntime) -> Result<(), Fail> {
                 needed: 3,
             }),
             "bad machine: place length 2 needs 3\n",
+        ),
+        (
+            Fault::BadLog(LogFault::Refused(15, LogRule::BadLine)),
+            "bad log: line 15 bad line\n",
+        ),
+        (
+            Fault::BadLog(LogFault::Refused(3, LogRule::BadDepth)),
+            "bad log: line 3 bad depth\n",
         ),
         (
             Fault::Ambiguous(twice(false, 1, 0, at(0, 2), at(0, 3))),
