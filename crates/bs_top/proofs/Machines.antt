@@ -14,7 +14,7 @@ use Rattle.std.specs.declared.vec.Vec.{Vec}
 use Rattle.std.specs.declared.alloc.Global.{Global}
 use Rattle.bs_top.specs.declared.stop.Stop.{Stop}
 use Rattle.bs_top.specs.declared.stop.Stop.TheVariants.{Refused}
-use Rattle.bs_top.specs.Answer.{contents, fits, machine_named, or_bad_machine}
+use Rattle.bs_top.specs.Answer.{contents, file_limit, fits, machine_named, or_bad_machine}
 use Rattle.bs_top.specs.Step.{Told, gives}
 use Rattle.bs_top.specs.Stops.{stop_for_machine, stop_for_place}
 use Rattle.bs_top.specs.Words.{flat, file}
@@ -34,13 +34,13 @@ of_flat files processors latency r h = h
 abbrev pub items : Vec ℕ Global → List ℕ
 items bytes = bytes.items
 
-pub of_no_file : (files : Files) (name : List ℕ) (stop : Stop) → Told items (contents files name) (Err stop) → Told machine_view (machine_named files (file name)) (Err stop)
+pub of_no_file : (files : Files) (name : List ℕ) (stop : Stop) → Told items (contents file_limit files name) (Err stop) → Told machine_view (machine_named files (file name)) (Err stop)
 unfolding machine_named
-of_no_file files name stop h = stops items machine_view (contents files name) (λ bytes. gives (or_bad_machine (machine_in bytes))) stop h
+of_no_file files name stop h = stops items machine_view (contents file_limit files name) (λ bytes. gives (or_bad_machine (machine_in bytes))) stop h
 
-pub of_file : (files : Files) (name bytes : List ℕ) (r : Result Machine Stop) → contents files name (Ok bytes) → Told machine_view (gives (or_bad_machine (machine_in bytes))) r → Told machine_view (machine_named files (file name)) r
+pub of_file : (files : Files) (name bytes : List ℕ) (r : Result Machine Stop) → contents file_limit files name (Ok bytes) → Told machine_view (gives (or_bad_machine (machine_in bytes))) r → Told machine_view (machine_named files (file name)) r
 unfolding machine_named
-of_file files name bytes r h k = goes_on machine_view (contents files name) (λ bytes. gives (or_bad_machine (machine_in bytes))) bytes r h k
+of_file files name bytes r h k = goes_on machine_view (contents file_limit files name) (λ bytes. gives (or_bad_machine (machine_in bytes))) bytes r h k
 
 abbrev if_fits : ℕ → MachineOf → Bool → Result (Unit {0}) Stop
 if_fits chares m b = if b then Ok tt else Err (Refused (fault.BadPlace (record { given = homes_in m.place; needed = chares })))

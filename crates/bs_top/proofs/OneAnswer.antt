@@ -1,5 +1,5 @@
 -- A command has one answer: each of its steps gives one thing at most.
-use Rattle.std.proofs.Common.{◌≡◌, ℕ, List, refl, sym, ap, ◌∙◌, subst, Option, Some, None, Ok, Err}
+use Rattle.std.proofs.Common.{◌≡◌, ℕ, List, length, refl, sym, ap, ◌∙◌, subst, Option, Some, None, Ok, Err}
 use Rattle.std.specs.FinMap as map
 use Rattle.bs_desk.specs.Outside.{Files}
 use Rattle.bs_check.specs.Refusal.{Broken, IsRefused, refusal}
@@ -10,20 +10,20 @@ use Rattle.bs_print.specs.Canonical.{text_of}
 use Rattle.bs_log.specs.declared.outcome.Outcome.{Outcome}
 use Rattle.bs_machine.specs.File.{machine_in}
 use Rattle.bs_machine.specs.Machine.{MachineOf, flat_in}
-use Rattle.bs_model.specs.Machine.{machine_of}
+use Rattle.bs_times.specs.Machine.{machine_of}
 use Rattle.bs_parse.specs.TextLaws.{OneProgram, OneFault, NotBoth}
 use Rattle.bs_report.specs.declared.faults.Fault.TheVariants as fault
-use Rattle.bs_report.specs.End.{end_of}
-use Rattle.bs_report.specs.Report.{report_text}
 use Rattle.bs_semantics.specs.Serial.{IsSerial, Machine, Simulated, timed}
 use Rattle.bs_semantics.specs.Verdict.{IsVerdict, Verdict}
 use Rattle.bs_tree.specs.declared.tree.Program.{Program}
 use Rattle.bs_top.specs.declared.stop.Stop.TheVariants.{Refused}
-use Rattle.bs_top.specs.Answer.{Answer, IsAnswer, IsReport, accepted, answer_of, checked, contents, fits, if_clean, judged, machine_named, or_bad_machine, program_in, reply_to, run, simulated, whole}
+use Rattle.bs_top.specs.Answer.{Answer, IsAnswer, IsReport, accepted, answer_of, checked, contents, file_limit, fits, if_clean, judged, kept_in, log_if_clean, log_limit, logged, log_named, machine_named, or_bad_machine, predicted, program_in, reply_to, reported, serial_run, simulated, whole}
+use Rattle.bs_top.specs.Place.{output}
 use Rattle.bs_top.specs.Step.{Said, and_then, gives}
-use Rattle.bs_top.specs.Words.{Asked, check as check_asked, model, MachineWord, flat, file}
+use Rattle.bs_top.specs.Words.{Asked, check as check_asked, model, emulate, run, predict, MachineWord, flat, file}
 use Rattle.bs_top.proofs.OneMachine.{one_machine}
-use Rattle.bs_top.proofs.OneStep.{IsOne, one_after, one_given}
+use Rattle.bs_top.proofs.OneLog.{LogLaws, one_log, one_predicted, valid_log}
+use Rattle.bs_top.proofs.OneStep.{IsOne, one_after, one_given, one_where}
 
 abbrev pub OneSerial : Type 0
 OneSerial = (p : Program) (limit : ℕ) (m : Machine) (r s : Simulated) → IsSerial p limit m r → IsSerial p limit m s → r ≡ s
@@ -31,14 +31,14 @@ OneSerial = (p : Program) (limit : ℕ) (m : Machine) (r s : Simulated) → IsSe
 abbrev pub OneVerdict : Type 0
 OneVerdict = (p : Program) (limit : ℕ) (v w : Verdict) → IsVerdict p limit v → IsVerdict p limit w → v ≡ w
 
-one_contents : (files : Files) (name : List ℕ) → IsOne (contents files name)
+pub one_contents : (most : ℕ) (files : Files) (name : List ℕ) → IsOne (contents most files name)
 unfolding contents
-one_contents files name = one_given (whole (map.get files name))
+one_contents most files name = one_given (whole most (map.get files name))
 
 pub one_named : (files : Files) (word : MachineWord) → IsOne (machine_named files word)
 unfolding machine_named
 one_named files (flat processors latency) = one_given (or_bad_machine (flat_in processors latency))
-one_named files (file name) = one_after (contents files name) (λ bytes. gives (or_bad_machine (machine_in bytes))) (one_contents files name) (λ bytes. one_given (or_bad_machine (machine_in bytes)))
+one_named files (file name) = one_after (contents file_limit files name) (λ bytes. gives (or_bad_machine (machine_in bytes))) (one_contents file_limit files name) (λ bytes. one_given (or_bad_machine (machine_in bytes)))
 
 pub one_fit : (chares : ℕ) (m : MachineOf) → IsOne (fits chares m)
 unfolding fits
@@ -69,7 +69,7 @@ one_checked p (Ok a) (Err s) h k = absurd (not_refused p k.0 h k.1)
 one_checked p (Err r) (Ok b) h k = absurd (not_refused p h.0 k h.1)
 one_checked p (Err r) (Err s) h k = ap (λ t. Err t) (h.2 ∙ ap (λ f. Refused (fault.CheckFailed f)) (broken_is p h.0 k.0 h.1 k.1) ∙ sym k.2)
 
-module _ (program : OneProgram) (fault_is : OneFault) (not_both : NotBoth) (verdict : OneVerdict) (serial : OneSerial) where
+module _ (program : OneProgram) (fault_is : OneFault) (not_both : NotBoth) (verdict : OneVerdict) (serial : OneSerial) (logs : LogLaws) where
   one_program : (text : List ℕ) → IsOne (program_in text)
   unfolding program_in
   one_program text (Ok p) (Ok q) h k = ap (λ r. Ok r) (program text p q h k)
@@ -81,26 +81,30 @@ module _ (program : OneProgram) (fault_is : OneFault) (not_both : NotBoth) (verd
   unfolding judged
   one_judged p limit r s h k = sym h.2 ∙ ap (if_clean limit) (verdict p limit h.0 k.0 h.1 k.1) ∙ k.2
 
+  pub one_logged : (p : Program) (limit : ℕ) → IsOne (logged p limit)
+  unfolding logged
+  one_logged p limit r s h k = sym h.2 ∙ ap (log_if_clean limit (length p.entries)) (verdict p limit h.0 k.0 h.1 k.1) ∙ k.2
+
   same_outcome : (p : Program) (m : MachineOf) (limit : ℕ) (a b : Said) (h : IsReport p m limit a) (k : IsReport p m limit b) → h.outcome ≡ k.outcome
   same_outcome p m limit a b h k =
       let machine = one_machine k.fitted h.fitted (k.is_machine ∙ sym h.is_machine) (k.is_fitted ∙ sym h.is_fitted) in
       outcome_is h.outcome k.outcome (serial p limit (machine_of h.fitted) (timed h.outcome) (timed k.outcome) h.is_outcome (subst (λ m. IsSerial p limit m (timed k.outcome)) machine k.is_outcome))
 
-  one_run : (p : Program) (m : MachineOf) (limit : ℕ) → IsOne (run p m limit)
+  one_run : (p : Program) (m : MachineOf) (limit : ℕ) → IsOne (serial_run p m limit)
   one_run p m limit (Ok a) (Ok b) h k =
-      ap (λ s. Ok s) (h.is_said ∙ ap (λ (o : Outcome). record { end = end_of o; text = report_text o }) (same_outcome p m limit a b h k) ∙ sym k.is_said)
+      ap (λ s. Ok s) (h.is_said ∙ ap reported (same_outcome p m limit a b h k) ∙ sym k.is_said)
   one_run p m limit (Ok a) (Err s) h k = absurd k
   one_run p m limit (Err r) s h k = absurd h
 
   one_simulated : (p : Program) (m : MachineOf) (limit : ℕ) → IsOne (simulated p m limit)
   unfolding simulated
-  one_simulated p m limit = one_after (fits p.chares m) (λ _. and_then (judged p limit) (λ _. run p m limit)) (one_fit p.chares m)
-      (λ _. one_after (judged p limit) (λ _. run p m limit) (one_judged p limit) (λ _. one_run p m limit))
+  one_simulated p m limit = one_after (fits p.chares m) (λ _. and_then (judged p limit) (λ _. serial_run p m limit)) (one_fit p.chares m)
+      (λ _. one_after (judged p limit) (λ _. serial_run p m limit) (one_judged p limit) (λ _. one_run p m limit))
 
   pub one_accepted : (files : Files) (name : List ℕ) → IsOne (accepted files name)
   unfolding accepted
   one_accepted files name =
-      one_after (contents files name) (λ text. and_then (program_in text) (λ p. and_then (checked p) (λ _. gives (Ok p)))) (one_contents files name)
+      one_after (contents file_limit files name) (λ text. and_then (program_in text) (λ p. and_then (checked p) (λ _. gives (Ok p)))) (one_contents file_limit files name)
       (λ text. one_after (program_in text) (λ p. and_then (checked p) (λ _. gives (Ok p))) (one_program text)
       (λ p. one_after (checked p) (λ _. gives (Ok p)) (one_checked p) (λ _. one_given (Ok p))))
 
@@ -108,11 +112,20 @@ module _ (program : OneProgram) (fault_is : OneFault) (not_both : NotBoth) (verd
   unfolding reply_to
   one_reply files None = one_given (Err (Refused fault.BadWords))
   one_reply files (Some (check_asked name)) =
-      one_after (accepted files name) (λ p. gives (Ok (record { end = end.Settled; text = text_of p }))) (one_accepted files name)
-      (λ p. one_given (Ok (record { end = end.Settled; text = text_of p })))
+      one_after (accepted files name) (λ p. gives (Ok (record { end = end.Settled; place = output; text = text_of p }))) (one_accepted files name)
+      (λ p. one_given (Ok (record { end = end.Settled; place = output; text = text_of p })))
   one_reply files (Some (model name word limit)) =
       one_after (accepted files name) (λ p. and_then (machine_named files word) (λ m. simulated p m limit)) (one_accepted files name)
       (λ p. one_after (machine_named files word) (λ m. simulated p m limit) (one_named files word) (λ m. one_simulated p m limit))
+  one_reply files (Some (emulate name into limit)) =
+      one_after (accepted files name) (λ p. and_then (logged p limit) (λ kept. gives (Ok (kept_in into kept)))) (one_accepted files name)
+      (λ p. one_after (logged p limit) (λ kept. gives (Ok (kept_in into kept))) (one_logged p limit) (λ kept. one_given (Ok (kept_in into kept))))
+  one_reply files (Some (run name word limit)) =
+      one_after (accepted files name) (λ p. and_then (machine_named files word) (λ m. simulated p m limit)) (one_accepted files name)
+      (λ p. one_after (machine_named files word) (λ m. simulated p m limit) (one_named files word) (λ m. one_simulated p m limit))
+  one_reply files (Some (predict name word)) =
+      one_where (log_named files name) (λ kept. and_then (machine_named files word) (λ m. predicted kept m)) (one_log logs files name (one_contents log_limit files name))
+      (λ kept is. one_after (machine_named files word) (λ m. predicted kept m) (one_named files word) (λ m. one_predicted logs kept (valid_log files name kept is) m (one_fit kept.chares m)))
 
   pub one : (files : Files) (asked : Option Asked) (a b : Answer) → IsAnswer files asked a → IsAnswer files asked b → a ≡ b
   one files asked a b h k = h.is_answer ∙ ap answer_of (one_reply files asked h.reply k.reply h.is_reply k.is_reply) ∙ sym k.is_answer

@@ -6,7 +6,7 @@ use Rattle.bs_machine.specs.declared.fitted.Fitted.{Fitted}
 use Rattle.bs_net.specs.Home as place
 use Rattle.bs_net.specs.Range.{processors_in}
 use Rattle.bs_net.specs.Ring.{hops_between}
-use Rattle.bs_model.specs.Machine.{machine_of}
+use Rattle.bs_times.specs.Machine.{machine_of}
 use Rattle.bs_semantics.specs.Serial.{Machine}
 
 by_view : MachineOf → ℕ → Machine

@@ -31,17 +31,20 @@ module _ {A B : Type 0} (first : Step A) (next : A → Step B) (one_first : IsOn
   past a h (Err s) (inl k) = not_both (one_first (Ok a) (Err s) h k)
   past a h (Err s) (inr k) = subst (λ c. next c (Err s)) (same_value (one_first (Ok k.0) (Ok a) k.1 h)) k.2
 
-  module _ (one_next : (a : A) → IsOne (next a)) where
+  module _ (one_next : (a : A) → first (Ok a) → IsOne (next a)) where
     by_next : (r s : Result B Stop) (a b : A) → first (Ok a) → first (Ok b) → next a r → next b s → r ≡ s
-    by_next r s a b h k n m = one_next b r s (subst (λ c. next c r) (same_value (one_first (Ok a) (Ok b) h k)) n) m
+    by_next r s a b h k n m = one_next b k r s (subst (λ c. next c r) (same_value (one_first (Ok a) (Ok b) h k)) n) m
 
-    pub one_after : IsOne (and_then first next)
-    one_after (Ok r) (Ok s) h k = by_next (Ok r) (Ok s) h.0 k.0 h.1 k.1 h.2 k.2
-    one_after (Ok r) (Err s) h (inl k) = not_both (one_first (Ok h.0) (Err s) h.1 k)
-    one_after (Ok r) (Err s) h (inr k) = by_next (Ok r) (Err s) h.0 k.0 h.1 k.1 h.2 k.2
-    one_after (Err r) (Ok s) (inl h) k = not_both (one_first (Ok k.0) (Err r) k.1 h)
-    one_after (Err r) (Ok s) (inr h) k = by_next (Err r) (Ok s) h.0 k.0 h.1 k.1 h.2 k.2
-    one_after (Err r) (Err s) (inl h) (inl k) = same_stop A B r s (one_first (Err r) (Err s) h k)
-    one_after (Err r) (Err s) (inl h) (inr k) = not_both (one_first (Ok k.0) (Err r) k.1 h)
-    one_after (Err r) (Err s) (inr h) (inl k) = not_both (one_first (Ok h.0) (Err s) h.1 k)
-    one_after (Err r) (Err s) (inr h) (inr k) = by_next (Err r) (Err s) h.0 k.0 h.1 k.1 h.2 k.2
+    pub one_where : IsOne (and_then first next)
+    one_where (Ok r) (Ok s) h k = by_next (Ok r) (Ok s) h.0 k.0 h.1 k.1 h.2 k.2
+    one_where (Ok r) (Err s) h (inl k) = not_both (one_first (Ok h.0) (Err s) h.1 k)
+    one_where (Ok r) (Err s) h (inr k) = by_next (Ok r) (Err s) h.0 k.0 h.1 k.1 h.2 k.2
+    one_where (Err r) (Ok s) (inl h) k = not_both (one_first (Ok k.0) (Err r) k.1 h)
+    one_where (Err r) (Ok s) (inr h) k = by_next (Err r) (Ok s) h.0 k.0 h.1 k.1 h.2 k.2
+    one_where (Err r) (Err s) (inl h) (inl k) = same_stop A B r s (one_first (Err r) (Err s) h k)
+    one_where (Err r) (Err s) (inl h) (inr k) = not_both (one_first (Ok k.0) (Err r) k.1 h)
+    one_where (Err r) (Err s) (inr h) (inl k) = not_both (one_first (Ok h.0) (Err s) h.1 k)
+    one_where (Err r) (Err s) (inr h) (inr k) = by_next (Err r) (Err s) h.0 k.0 h.1 k.1 h.2 k.2
+
+  pub one_after : ((a : A) → IsOne (next a)) → IsOne (and_then first next)
+  one_after one_next = one_where (λ a h. one_next a)

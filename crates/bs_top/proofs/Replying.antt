@@ -3,6 +3,7 @@ use Rattle.std.proofs.Common.{◌≡◌, ◌≢◌, ℕ, List, refl, sym, ap, �
 use Rattle.bs_desk.specs.Outside.{Files}
 use Rattle.std.specs.Prelude.{IfOk}
 use Rattle.bs_check.specs.declared.accepted.Accepted.{Accepted}
+use Rattle.bs_log.specs.declared.log.Log.{Log}
 use Rattle.bs_log.specs.declared.outcome.End.TheVariants as end
 use Rattle.bs_print.specs.Canonical.{text_of}
 use Rattle.bs_machine.specs.Machine.{MachineOf, machine_view}
@@ -14,15 +15,16 @@ use Rattle.std.specs.Option.{option_and_then, option_map}
 use Rattle.bs_top.specs.declared.stop.Reply.{Reply}
 use Rattle.bs_top.specs.declared.stop.Stop.{Stop}
 use Rattle.bs_top.specs.declared.stop.Stop.TheVariants.{Refused, NoFile, ReadFault, Memory}
-use Rattle.bs_top.specs.Answer.{accepted, checked, contents, machine_named, program_in, reply_to, simulated}
+use Rattle.bs_top.specs.Answer.{accepted, checked, contents, file_limit, kept_in, logged, machine_named, program_in, reply_to, simulated}
 use Rattle.bs_top.specs.declared.asked.Asked.{Asked as AskedFor}
+use Rattle.bs_top.specs.Place.{output}
 use Rattle.bs_top.specs.Seen.{asked_of, said_of}
 use Rattle.bs_top.specs.Step.{Said, Told, and_then, gives}
 use Rattle.bs_top.specs.Stops.{stop_for_words}
-use Rattle.bs_top.specs.Words.{Asked, check, model, MachineWord, built}
+use Rattle.bs_top.specs.Words.{Asked, check, model, emulate, run, predict, MachineWord, built}
 use Rattle.bs_tree.specs.declared.tree.Program.{Program}
 use Rattle.bs_top.proofs.Machines.{items}
-use Rattle.bs_top.proofs.Simulating.{itself}
+use Rattle.bs_top.proofs.Simulating.{itself, this_log}
 use Rattle.bs_top.proofs.Stages.{stops, goes_on}
 
 abbrev pub program_of : Accepted → Program
@@ -31,20 +33,23 @@ program_of a = a.program
 abbrev pub nothing : Accepted → Unit {0}
 nothing a = tt
 
--- the name of the program's file
+-- the name of the program's file, where the command has one
 abbrev pub AsksFor : List ℕ → Asked → Type 0
 AsksFor name (check n) = name ≡ n
 AsksFor name (model n word limit) = name ≡ n
+AsksFor name (emulate n into limit) = name ≡ n
+AsksFor name (run n word limit) = name ≡ n
+AsksFor name (predict n word) = ⊥
 
 module _ (files : Files) (name : List ℕ) where
-  pub no_text : (stop : Stop) → Told items (contents files name) (Err stop) → Told program_of (accepted files name) (Err stop)
+  pub no_text : (stop : Stop) → Told items (contents file_limit files name) (Err stop) → Told program_of (accepted files name) (Err stop)
   unfolding accepted
-  no_text stop h = stops items program_of (contents files name) (λ text. and_then (program_in text) (λ p. and_then (checked p) (λ _. gives (Ok p)))) stop h
+  no_text stop h = stops items program_of (contents file_limit files name) (λ text. and_then (program_in text) (λ p. and_then (checked p) (λ _. gives (Ok p)))) stop h
 
-  module _ (text : List ℕ) (is_text : contents files name (Ok text)) where
+  module _ (text : List ℕ) (is_text : contents file_limit files name (Ok text)) where
     pub no_program : (stop : Stop) → Told itself (program_in text) (Err stop) → Told program_of (accepted files name) (Err stop)
     unfolding accepted
-    no_program stop h = goes_on program_of (contents files name) (λ text. and_then (program_in text) (λ p. and_then (checked p) (λ _. gives (Ok p)))) text (Err stop) is_text
+    no_program stop h = goes_on program_of (contents file_limit files name) (λ text. and_then (program_in text) (λ p. and_then (checked p) (λ _. gives (Ok p)))) text (Err stop) is_text
         (stops itself program_of (program_in text) (λ p. and_then (checked p) (λ _. gives (Ok p))) stop h)
 
     module _ (p : Program) (is_program : program_in text (Ok p)) where
@@ -57,20 +62,36 @@ module _ (files : Files) (name : List ℕ) where
 
       pub accepts : (r : Result Accepted Stop) → IfOk r (λ a. a.program ≡ p) → Told nothing (checked p) r → Told program_of (accepted files name) r
       unfolding accepted
-      accepts r same h = goes_on program_of (contents files name) (λ text. and_then (program_in text) (λ p. and_then (checked p) (λ _. gives (Ok p)))) text r is_text
+      accepts r same h = goes_on program_of (contents file_limit files name) (λ text. and_then (program_in text) (λ p. and_then (checked p) (λ _. gives (Ok p)))) text r is_text
           (goes_on program_of (program_in text) (λ p. and_then (checked p) (λ _. gives (Ok p))) p r is_program (ends r same h))
 
   pub not_accepted : (q : Asked) (stop : Stop) → AsksFor name q → Told program_of (accepted files name) (Err stop) → Told said_of (reply_to files (Some q)) (Err stop)
   unfolding reply_to
   not_accepted (check n) stop is h = subst (λ k. Told said_of (reply_to files (Some (check k))) (Err stop)) is
-      (stops program_of said_of (accepted files name) (λ p. gives (Ok (record { end = end.Settled; text = text_of p }))) stop h)
+      (stops program_of said_of (accepted files name) (λ p. gives (Ok (record { end = end.Settled; place = output; text = text_of p }))) stop h)
   not_accepted (model n word limit) stop is h = subst (λ k. Told said_of (reply_to files (Some (model k word limit))) (Err stop)) is
       (stops program_of said_of (accepted files name) (λ p. and_then (machine_named files word) (λ m. simulated p m limit)) stop h)
+  not_accepted (emulate n into limit) stop is h = subst (λ k. Told said_of (reply_to files (Some (emulate k into limit))) (Err stop)) is
+      (stops program_of said_of (accepted files name) (λ p. and_then (logged p limit) (λ kept. gives (Ok (kept_in into kept)))) stop h)
+  not_accepted (run n word limit) stop is h = subst (λ k. Told said_of (reply_to files (Some (run k word limit))) (Err stop)) is
+      (stops program_of said_of (accepted files name) (λ p. and_then (machine_named files word) (λ m. simulated p m limit)) stop h)
+  not_accepted (predict n word) stop is h = absurd is
 
   module _ (p : Program) (is_program : accepted files name (Ok p)) where
-    pub prints : (said : Said) → said ≡ record { end = end.Settled; text = text_of p } → reply_to files (Some (check name)) (Ok said)
+    pub prints : (said : Said) → said ≡ record { end = end.Settled; place = output; text = text_of p } → reply_to files (Some (check name)) (Ok said)
     unfolding reply_to
     prints said is = (p, is_program, ap (λ s. Ok s) (sym is))
+
+    module _ (into : List ℕ) (limit : ℕ) where
+      on_log : (r : Result Reply Stop) → Told said_of (and_then (logged p limit) (λ kept. gives (Ok (kept_in into kept)))) r → Told said_of (reply_to files (Some (emulate name into limit))) r
+      unfolding reply_to
+      on_log r h = goes_on said_of (accepted files name) (λ p. and_then (logged p limit) (λ kept. gives (Ok (kept_in into kept)))) p r is_program h
+
+      pub no_log : (stop : Stop) → Told this_log (logged p limit) (Err stop) → Told said_of (reply_to files (Some (emulate name into limit))) (Err stop)
+      no_log stop h = on_log (Err stop) (stops this_log said_of (logged p limit) (λ kept. gives (Ok (kept_in into kept))) stop h)
+
+      pub keeps_log : (kept : Log) (reply : Reply) → logged p limit (Ok kept) → said_of reply ≡ kept_in into kept → Told said_of (reply_to files (Some (emulate name into limit))) (Ok reply)
+      keeps_log kept reply h is = on_log (Ok reply) (kept, h, ap (λ s. Ok s) (sym is))
 
     module _ (word : MachineWord) (limit : ℕ) where
       on_program : (r : Result Reply Stop) → Told said_of (and_then (machine_named files word) (λ m. simulated p m limit)) r → Told said_of (reply_to files (Some (model name word limit))) r

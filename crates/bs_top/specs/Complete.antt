@@ -3,8 +3,12 @@ use Rattle.std.specs.Prelude.{◌≡◌, ◌≤◌, ◌⊎◌, ℕ, IsTrue, List
 use Rattle.std.specs.FinMap as map
 use Rattle.bs_desk.specs.Outside.{Outside, Files}
 use Rattle.bs_check.specs.Refusal.{refusal}
+use Rattle.bs_log.specs.Collected.{log_of}
+use Rattle.bs_log.specs.Valid.{IsValid}
 use Rattle.bs_log.specs.declared.history.History.{History}
+use Rattle.bs_log.specs.declared.log.Log.{Log}
 use Rattle.bs_log.specs.declared.outcome.End.TheVariants.{Settled}
+use Rattle.bs_logtext.specs.Text.{log_text}
 use Rattle.bs_machine.specs.File.{machine_in}
 use Rattle.bs_machine.specs.Machine.{MachineOf, flat_in}
 use Rattle.bs_net.specs.Home.{has_length}
@@ -14,12 +18,13 @@ use Rattle.bs_semantics.specs.Verdict.{IsVerdict, clean}
 use Rattle.bs_tree.specs.declared.tree.Program.{Program}
 use Rattle.bs_top.specs.declared.status.Status.{Status}
 use Rattle.bs_top.specs.declared.status.Status.TheVariants as status
-use Rattle.bs_top.specs.Answer.{Answer, IsReport, answer_of, file_limit}
+use Rattle.bs_top.specs.Answer.{Answer, IsPrediction, IsReport, answer_of, file_limit, kept_in}
 use Rattle.bs_top.specs.Performs.{WritesAnswer}
+use Rattle.bs_top.specs.Place.{output}
 use Rattle.bs_top.specs.Step.{Said}
 use Rattle.bs_top.specs.Words.{MachineWord, flat, file}
 
--- the file of that name holds these bytes, and no more than a file may have
+-- the file of that name holds these bytes, and no more than the file of a program or a machine may have
 pub record HasFile (files : Files) (name bytes : List ℕ) : Type 0 where
   pub is_there : map.get files name ≡ Some bytes
   pub is_small : length bytes ≤ file_limit
@@ -45,11 +50,35 @@ pub record CanRun (files : Files) (name : List ℕ) (word : MachineWord) (limit 
 
 -- the canonical text of a program
 abbrev pub canonical : Program → Said
-canonical p = record { end = Settled; text = text_of p }
+canonical p = record { end = Settled; place = output; text = text_of p }
 
 -- the answer is a report of what the serial machine model gives
 abbrev pub IsReported : Program → MachineOf → ℕ → Answer → Type 0
 IsReported p m limit answer = (said : Said) × IsReport p m limit said × (answer ≡ answer_of (Ok said))
+
+-- there is a program, and its verdict at the limit is Clean, with these histories
+pub record CanEmulate (files : Files) (name : List ℕ) (limit : ℕ) (p : Program) (histories : List History) : Type 0 where
+  pub program : HasProgram files name p
+  pub is_clean : IsVerdict p limit (clean histories)
+
+-- the answer is the log of these histories, for the file of that name
+abbrev pub logged_in : List ℕ → Program → List History → Answer
+logged_in into p histories = answer_of (Ok (kept_in into (log_of histories (length p.entries))))
+
+-- the file of that name holds the text of a valid log
+pub record HasLog (files : Files) (name : List ℕ) (kept : Log) : Type 0 where
+  pub is_there : map.get files name ≡ Some (log_text kept)
+  pub is_valid : IsValid kept
+
+-- there are a log and a machine that fits it
+pub record CanPredict (files : Files) (name : List ℕ) (word : MachineWord) (kept : Log) (m : MachineOf) : Type 0 where
+  pub log : HasLog files name kept
+  pub machine : HasMachine files word m
+  pub is_fitting : IsTrue (has_length m.place kept.chares)
+
+-- the answer is the report of the log's outcome on the machine at the log's one consistent table
+abbrev pub IsPredicted : Log → MachineOf → Answer → Type 0
+IsPredicted kept m answer = (said : Said) × IsPrediction kept m said × (answer ≡ answer_of (Ok said))
 
 -- statuses with which a text isn't written whole
 abbrev pub IsFailure : Status → Type 0

@@ -1,6 +1,7 @@
 pub mod Codes
 pub mod Words
 pub mod Stops
+pub mod Place
 pub mod Step
 pub mod Seen
 pub mod Answer

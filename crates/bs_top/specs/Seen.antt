@@ -1,10 +1,14 @@
 -- What contracts see of a command that was read, and of a reply.
+use Rattle.std.specs.Prelude.{string_bytes}
 use Rattle.bs_top.specs.declared.asked.Asked.{Asked as AskedFor}
 use Rattle.bs_top.specs.declared.asked.Asked.TheVariants as asked
 use Rattle.bs_top.specs.declared.asked.MachineWord.{MachineWord as Machine}
 use Rattle.bs_top.specs.declared.asked.MachineWord.TheVariants as word
 use Rattle.bs_top.specs.declared.stop.Reply.{Reply}
-use Rattle.bs_top.specs.Words.{Asked, check, model, IsLimit, MachineWord, flat, file}
+use Rattle.bs_top.specs.declared.stop.Target.{Target}
+use Rattle.bs_top.specs.declared.stop.Target.TheVariants as target
+use Rattle.bs_top.specs.Place.{Place, output, in_file}
+use Rattle.bs_top.specs.Words.{Asked, check, model, emulate, run, predict, IsLimit, MachineWord, flat, file}
 use Rattle.bs_top.specs.Step.{Said}
 
 abbrev pub word_of : Machine → MachineWord
@@ -14,11 +18,21 @@ word_of (word.File name) = file name.now
 abbrev pub asked_of : AskedFor → Asked
 asked_of (asked.Check program) = check program.now
 asked_of (asked.Model program machine limit) = model program.now (word_of machine) limit
+asked_of (asked.Emulate program log limit) = emulate program.now log.now limit
+asked_of (asked.Run program machine limit) = run program.now (word_of machine) limit
+asked_of (asked.Predict log machine) = predict log.now (word_of machine)
 
 -- the limit is one
 abbrev pub HasLimit : AskedFor → Type 0
 HasLimit (asked.Check program) = Unit {0}
 HasLimit (asked.Model program machine limit) = IsLimit limit
+HasLimit (asked.Emulate program log limit) = IsLimit limit
+HasLimit (asked.Run program machine limit) = IsLimit limit
+HasLimit (asked.Predict log machine) = Unit {0}
+
+abbrev pub place_of : Target → Place
+place_of target.Output = output
+place_of (target.File name) = in_file (string_bytes name)
 
 abbrev pub said_of : Reply → Said
-said_of reply = record { end = reply.end; text = reply.text.items }
+said_of reply = record { end = reply.end; place = place_of reply.target; text = reply.text.items }

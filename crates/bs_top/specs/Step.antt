@@ -1,12 +1,14 @@
 -- The steps of a command: each gives a value to go on with, or a reason to stop.
 use Rattle.std.specs.Prelude.{◌≡◌, ◌⊎◌, ℕ, List, Result, Ok, Err}
 use Rattle.bs_log.specs.declared.outcome.End.{End}
+use Rattle.bs_top.specs.Place.{Place}
 use Rattle.bs_top.specs.declared.stop.Stop.{Stop}
 use Rattle.bs_top.specs.declared.stop.Stop.TheVariants.{Refused, NoFile, ReadFault, Memory}
 
--- a text for standard output, and how the command ends
+-- a text, where it goes, and how the command ends
 pub record Said : Type 0 where
   pub end : End
+  pub place : Place
   pub text : List ℕ
 
 -- what a step may give

@@ -1,12 +1,14 @@
 -- The reason to stop that is made of a refusal.
 use Rattle.bs_check.specs.declared.fault.CheckFault.{CheckFault}
 use Rattle.bs_check.specs.declared.fault.CheckFault.TheVariants as check
+use Rattle.bs_logread.specs.declared.fault.LogFault.{LogFault}
+use Rattle.bs_logread.specs.declared.fault.LogFault.TheVariants as read
 use Rattle.bs_machine.specs.declared.fault.MachineFault.{MachineFault}
 use Rattle.bs_machine.specs.declared.fault.MachineFault.TheVariants as machine
 use Rattle.bs_machine.specs.declared.fitted.PlaceLength.{PlaceLength}
 use Rattle.bs_parse.specs.declared.text.ParseFault.{ParseFault}
 use Rattle.bs_parse.specs.declared.text.ParseFault.TheVariants as parse
-use Rattle.bs_report.specs.declared.faults.Fault.TheVariants.{BadWords, BadProgram, CheckFailed, BadMachine, BadPlace}
+use Rattle.bs_report.specs.declared.faults.Fault.TheVariants.{BadWords, BadProgram, CheckFailed, BadMachine, BadPlace, BadLog}
 use Rattle.bs_words.specs.declared.fault.WordsFault.{WordsFault}
 use Rattle.bs_words.specs.declared.fault.WordsFault.TheVariants as words
 use Rattle.bs_top.specs.declared.stop.Stop.{Stop}
@@ -27,6 +29,10 @@ stop_for_check fault = Refused (CheckFailed fault)
 abbrev pub stop_for_machine : MachineFault → Stop
 stop_for_machine machine.Memory = Memory
 stop_for_machine fault = Refused (BadMachine fault)
+
+abbrev pub stop_for_log : LogFault → Stop
+stop_for_log read.Memory = Memory
+stop_for_log fault = Refused (BadLog fault)
 
 abbrev pub stop_for_place : PlaceLength → Stop
 stop_for_place length = Refused (BadPlace length)

@@ -7,12 +7,15 @@ ghost use Rattle.bs_top.specs.Words.{IsLimit, asked_with, built as built_of, fla
 use bs_num::read_decimal;
 use bs_words::{Argument, Command, Verb};
 
-/// A command that is built, with the name of the program's file, and the limit of sizes where there
-/// is one.
+/// A command that is built, with the name of the file of its program or its log, and what else it has: a
+/// machine, the name of the log's file, the limit of sizes.
 #[derive(Clone, Copy, Drop)]
 pub(crate) enum Asked<'a> {
     Check(&'a str),
     Model(&'a str, MachineWord<'a>, u64),
+    Emulate(&'a str, &'a str, u64),
+    Run(&'a str, MachineWord<'a>, u64),
+    Predict(&'a str, MachineWord<'a>),
 }
 
 /// A machine: its processors and its latency, or the name of its file.
@@ -28,7 +31,10 @@ pub(crate) fn built(command: &Command) -> Option<Asked<'_>>
     ensures value { option_map asked_of result ≡ built_of command.now }
     ensures limit { IfSome result HasLimit }
 {
-    with_names(command.limit, command.verb, command.names.as_slice())
+    match (command.waves, &command.journal) {
+        (None, None) => with_names(command.limit, command.verb, command.names.as_slice()),
+        _ => None,
+    }
 }
 
 fn with_names(limit: u64, verb: Verb, names: &[Argument]) -> Option<Asked<'_>>
@@ -41,6 +47,17 @@ fn with_names(limit: u64, verb: Verb, names: &[Argument]) -> Option<Asked<'_>>
         (Verb::Model, [program, machine]) => {
             let machine = machine_word(machine.text())?;
             Some(Asked::Model(program.text(), machine, limit))
+        }
+        (Verb::Emulate, [program, log]) => {
+            Some(Asked::Emulate(program.text(), log.text(), limit))
+        }
+        (Verb::Run, [program, machine]) => {
+            let machine = machine_word(machine.text())?;
+            Some(Asked::Run(program.text(), machine, limit))
+        }
+        (Verb::Predict, [log, machine]) => {
+            let machine = machine_word(machine.text())?;
+            Some(Asked::Predict(log.text(), machine))
         }
         _ => None,
     }

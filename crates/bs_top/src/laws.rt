@@ -1,12 +1,16 @@
 // Laws of what is answered. Each is a function whose contract is the law.
-ghost use Rattle.std.specs.Prelude.{◌≡◌, ℕ, List, Ok, Option, Some};
+ghost use Rattle.std.specs.Prelude.{◌≡◌, ◌↔◌, ℕ, List, Ok, Option, Some, length};
 ghost use Rattle.bs_desk.specs.Outside.{Files, Outside};
+ghost use Rattle.bs_log.specs.Collected.{log_of};
+ghost use Rattle.bs_log.specs.declared.history.History.{History};
+ghost use Rattle.bs_log.specs.declared.log.Log.{Log};
 ghost use Rattle.bs_machine.specs.Machine.{MachineOf};
+ghost use Rattle.bs_semantics.specs.Verdict.{IsVerdict, clean};
 ghost use Rattle.bs_tree.specs.declared.tree.Program.{Program};
 ghost use Rattle.bs_top.specs.Answer.{Answer, IsAnswer, answer_of};
-ghost use Rattle.bs_top.specs.Complete.{CanRun, Ends, HasProgram, IsReported, canonical};
+ghost use Rattle.bs_top.specs.Complete.{CanEmulate, CanPredict, CanRun, Ends, HasProgram, IsPredicted, IsReported, canonical, logged_in};
 ghost use Rattle.bs_top.specs.Performs.{Answers};
-ghost use Rattle.bs_top.specs.Words.{Asked, MachineWord, check, model};
+ghost use Rattle.bs_top.specs.Words.{Asked, MachineWord, check, emulate, model, predict, run};
 ghost use Rattle.bs_top.specs.declared.status.Status.{Status};
 
 /// For given contents of the files a command has one answer.
@@ -18,26 +22,75 @@ pub fn one_answer()
     bs_parse::text_laws::no_both();
     bs_semantics::laws::verdict();
     bs_semantics::laws::one_serial();
+    bs_logread::one_text();
+    bs_logread::one_fault();
+    bs_logtext::texts_are_small();
+    bs_times::laws::timely_machines();
+    bs_times::laws::one_outcome();
 }
 
 /// **Completeness.** Where the file of a program is there, of no more bytes than a file may have, and
 /// holds a program that keeps all rules, the answer to `check` is its canonical text (`check`). Where
 /// there is also a machine that fits the program, and the program's verdict at the limit is Clean, the
 /// answer to `model` is the report of an outcome that the serial machine model gives, with the status
-/// of its end (`model`).
+/// of its end (`model`), and so is the answer to `run` (`run`).
+///
+/// Where the file of a log is there and holds the text of a valid log, and there is a machine that fits
+/// it, the answer to `predict` is the report of the log's outcome at its one consistent table, with the
+/// status of its end (`predict`).
+///
+/// Where the program's verdict at the limit is Clean, the answer to `emulate` is the text of the log of
+/// its Clean round for the log's file, with the status of the log's end (`emulate`).
 ///
 /// So a call that answers such a command over such files writes that text whole and ends with that
-/// status, or its status is read fault, write fault or want of memory (`checks`, `models`). When the
-/// first two come is said by the clause `cause` of `perform_alone`.
+/// status, or its status is read fault, write fault or want of memory (`checks`, `models`,
+/// `runs`, `emulates`, `predicts`). When the first two come is said by the clause `cause` of `perform_alone`.
 pub fn complete()
     ensures check { (files : Files) (name : List ℕ) (p : Program) (a : Answer) → HasProgram files name p → IsAnswer files (Some (check name)) a → a ≡ answer_of (Ok (canonical p)) }
     ensures model { (files : Files) (name : List ℕ) (word : MachineWord) (limit : ℕ) (p : Program) (m : MachineOf) (a : Answer) → CanRun files name word limit p m → IsAnswer files (Some (model name word limit)) a → IsReported p m limit a }
+    ensures run { (files : Files) (name : List ℕ) (word : MachineWord) (limit : ℕ) (p : Program) (m : MachineOf) (a : Answer) → CanRun files name word limit p m → IsAnswer files (Some (run name word limit)) a → IsReported p m limit a }
+    ensures emulate { (files : Files) (name into : List ℕ) (limit : ℕ) (p : Program) (histories : List History) (a : Answer) → CanEmulate files name limit p histories → IsAnswer files (Some (emulate name into limit)) a → a ≡ logged_in into p histories }
+    ensures predict { (files : Files) (name : List ℕ) (word : MachineWord) (kept : Log) (m : MachineOf) (a : Answer) → CanPredict files name word kept m → IsAnswer files (Some (predict name word)) a → IsPredicted kept m a }
     ensures checks { (files : Files) (name : List ℕ) (p : Program) (old new : Outside) (s : Status) → HasProgram files name p → Answers files (Some (check name)) old new s → Ends (λ a. a ≡ answer_of (Ok (canonical p))) old new s }
     ensures models { (files : Files) (name : List ℕ) (word : MachineWord) (limit : ℕ) (p : Program) (m : MachineOf) (old new : Outside) (s : Status) → CanRun files name word limit p m → Answers files (Some (model name word limit)) old new s → Ends (IsReported p m limit) old new s }
+    ensures runs { (files : Files) (name : List ℕ) (word : MachineWord) (limit : ℕ) (p : Program) (m : MachineOf) (old new : Outside) (s : Status) → CanRun files name word limit p m → Answers files (Some (run name word limit)) old new s → Ends (IsReported p m limit) old new s }
+    ensures predicts { (files : Files) (name : List ℕ) (word : MachineWord) (kept : Log) (m : MachineOf) (old new : Outside) (s : Status) → CanPredict files name word kept m → Answers files (Some (predict name word)) old new s → Ends (IsPredicted kept m) old new s }
+    ensures emulates { (files : Files) (name into : List ℕ) (limit : ℕ) (p : Program) (histories : List History) (old new : Outside) (s : Status) → CanEmulate files name limit p histories → Answers files (Some (emulate name into limit)) old new s → Ends (λ a. a ≡ logged_in into p histories) old new s }
 {
     bs_parse::text_laws::one_program();
     bs_parse::text_laws::one_fault();
     bs_parse::text_laws::no_both();
     bs_semantics::laws::verdict();
     bs_semantics::laws::one_serial();
+    bs_logread::one_text();
+    bs_logread::one_fault();
+    bs_logtext::texts_are_small();
+    bs_times::laws::timely_machines();
+    bs_times::laws::one_outcome();
+}
+
+/// **The headline.** What `run` answers is what `model` answers, whatever the files hold (`run`). And
+/// where a file holds the text of the log of a program's Clean round, what `predict` answers on a
+/// machine is what `model` answers to the program on that machine (`predict`): the report of the serial
+/// machine model, from the log alone.
+///
+/// That log is what `emulate` writes (the law `complete`). It is valid, as `emulate` shows of each log
+/// before it writes it.
+pub fn headline()
+    ensures run { (files : Files) (name : List ℕ) (word : MachineWord) (limit : ℕ) (a : Answer) → IsAnswer files (Some (run name word limit)) a ↔ IsAnswer files (Some (model name word limit)) a }
+    ensures predict { (files later : Files) (name into : List ℕ) (word other : MachineWord) (limit : ℕ) (p : Program) (histories : List History) (m : MachineOf) (a b : Answer) →
+        CanRun files name word limit p m → IsVerdict p limit (clean histories) → CanPredict later into other (log_of histories (length p.entries)) m →
+        IsAnswer files (Some (model name word limit)) a → IsAnswer later (Some (predict into other)) b → b ≡ a }
+{
+    bs_parse::text_laws::one_program();
+    bs_parse::text_laws::one_fault();
+    bs_parse::text_laws::no_both();
+    bs_semantics::laws::verdict();
+    bs_semantics::laws::one_serial();
+    bs_logread::one_text();
+    bs_logread::one_fault();
+    bs_logtext::texts_are_small();
+    bs_times::laws::timely_machines();
+    bs_times::laws::one_outcome();
+    bs_serial::laws::verdict_times();
 }

@@ -4,8 +4,11 @@
 #![tactic(auto)]
 
 mod asked;
+mod emulating;
 pub mod laws;
 mod perform;
+mod predicting;
+mod running;
 mod status;
 mod steps;
 mod stop;
@@ -13,6 +16,8 @@ mod stop;
 pub use perform::perform_alone;
 pub use status::Status;
 
+#[cfg(test)]
+mod logs;
 #[cfg(test)]
 mod runs;
 #[cfg(test)]

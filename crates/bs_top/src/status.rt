@@ -19,6 +19,8 @@ pub enum Status {
     CheckFailed,
     /// The machine's file is no machine, or the machine doesn't fit the program (13).
     BadMachine,
+    /// The log's file is the text of no valid log (14).
+    BadLog,
     /// A chare is sent one key twice, or asks for one key twice (15).
     AmbiguousMatch,
     /// The size of the run is above the limit (16).
@@ -48,6 +50,7 @@ impl Status {
             Status::BadProgram => 11,
             Status::CheckFailed => 12,
             Status::BadMachine => 13,
+            Status::BadLog => 14,
             Status::AmbiguousMatch => 15,
             Status::TooLong => 16,
             Status::TooBig => 18,

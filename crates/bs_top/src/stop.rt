@@ -1,20 +1,29 @@
 // What comes of a command before anything is written.
 ghost use Rattle.std.specs.Prelude.{◌≡◌};
-ghost use Rattle.bs_top.specs.Stops.{stop_for_check, stop_for_machine, stop_for_place, stop_for_program, stop_for_words};
+ghost use Rattle.bs_top.specs.Stops.{stop_for_check, stop_for_log, stop_for_machine, stop_for_place, stop_for_program, stop_for_words};
 ghost use Rattle.bs_top.specs.declared.stop.Stop.TheVariants.{Memory};
 
 use bs_check::CheckFault;
 use bs_log::End;
+use bs_logread::LogFault;
 use bs_machine::{MachineFault, PlaceLength};
 use bs_parse::ParseFault;
 use bs_report::Fault;
 use bs_words::WordsFault;
 use std::alloc::AllocError;
 
-/// A text for standard output, and how the command ends.
+/// Where the text of a reply goes: to standard output, or to the file of that name.
+#[derive(Drop)]
+pub(crate) enum Target {
+    Output,
+    File(String),
+}
+
+/// A text, where it goes, and how the command ends.
 #[derive(Drop)]
 pub(crate) struct Reply {
     pub(crate) end: End,
+    pub(crate) target: Target,
     pub(crate) text: Vec<u8>,
 }
 
@@ -78,6 +87,17 @@ impl From<MachineFault> for Stop {
         match fault {
             MachineFault::Memory => Stop::Memory,
             _ => Stop::Refused(Fault::BadMachine(fault)),
+        }
+    }
+}
+
+impl From<LogFault> for Stop {
+    ghost from_gives = { λ fault given. given ≡ stop_for_log fault };
+
+    fn from(fault: LogFault) -> Stop {
+        match fault {
+            LogFault::Memory => Stop::Memory,
+            _ => Stop::Refused(Fault::BadLog(fault)),
         }
     }
 }

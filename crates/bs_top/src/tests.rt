@@ -154,6 +154,61 @@ fn reports(rt: HostRuntime) -> Result<(), Fail> {
     Ok(())
 }
 
+// The log of the two chares.
+const TWO_CHARES_LOG: &str = "bslog 1
+chares 2 entries 1 rows 4
+row 0 1 1 4
+send 1 0 7 8 4
+row 0 3 2 3
+after 1
+mail 3 1
+emit 1
+row 1 1 1 4
+send 0 0 7 8 4
+row 1 3 2 3
+after 3
+mail 1 1
+emit 0
+end
+";
+
+// Each of two messages justifies the other.
+const CIRCLE: &str = "bslog 1
+chares 2 entries 1 rows 2
+row 0 1 2 1
+mail 2 1
+send 1 0 0 0 1
+row 1 1 2 1
+mail 1 1
+send 0 0 0 0 1
+end
+";
+
+#[test]
+fn a_run_from_the_log(rt: HostRuntime) -> Result<(), Fail> {
+    let program = TWO_CHARES.as_bytes();
+    let settled = Status::Settled;
+    let words = ["run", "p", "flat:2:5"];
+    expect(&rt, &words, program, b"", settled, TWO_CHARES_REPORT, "")
+}
+
+#[test]
+fn a_prediction(rt: HostRuntime) -> Result<(), Fail> {
+    let log = TWO_CHARES_LOG.as_bytes();
+    let settled = Status::Settled;
+    let words = ["predict", "p", "flat:2:5"];
+    expect(&rt, &words, log, b"", settled, TWO_CHARES_REPORT, "")
+}
+
+#[test]
+fn a_bad_log(rt: HostRuntime) -> Result<(), Fail> {
+    let log = CIRCLE.as_bytes();
+    let bad = Status::BadLog;
+    let words = ["predict", "p", "flat:2:5"];
+    let line = "bad log: line 3 bad depth\n";
+    expect(&rt, &words, log, b"", bad, "", line)
+}
+
 // Three chares.
 const THREE_CHARES: &str = "chares 3; var x; entry go(1);
 body { if (this == 1) { serial { send go[0](1) to 0 bytes 640; work 1; send go[0](2) to 2; } }
@@ -398,7 +453,7 @@ fn bad_words(rt: HostRuntime) -> Result<(), Fail> {
         &["run"],
         &["model", "p"],
         &["model", "-p", "flat:2:5"],
-        &["run", "p", "flat:2:5"],
+        &["run", "p", "flat:2:5", "--waves", "3"],
         &["check"],
         &["model", "p", "flat:0:5"],
         &["model", "p", "flat:2:0"],

@@ -2,4 +2,11 @@ use Rattle.bs_top.proofs.OneAnswer.{one}
 use Rattle.bs_top.proofs.laws.one_answer.Goals as goal
 
 pub returns : goal.returns
-returns c = one c.one_program.ensures c.one_fault.ensures c.no_both.ensures c.verdict.ensures.one c.one_serial.ensures
+returns c = one c.one_program.ensures c.one_fault.ensures c.no_both.ensures c.verdict.ensures.one c.one_serial.ensures (record {
+  text = c.one_text.ensures;
+  fault = c.one_fault-2.ensures.one;
+  none = c.one_fault-2.ensures.none;
+  small = c.texts_are_small.ensures;
+  timely = c.timely_machines.ensures;
+  outcome = c.one_outcome.ensures;
+})

@@ -37,6 +37,27 @@ returns-in-Some-Model-clause-told g c =
     subst (λ q. IfSome (g.D.Desk.world c.args.desk.now).files (λ files. Told said_of (reply_to files q) c.model.result))
     (sym (is ∙ ap (λ a. Some (asked_of a)) c.in-Some-Model.field-0-is)) c.model.ensures.told
 
+pub returns-in-Some-Emulate-clause-told : goal.returns-in-Some-Emulate-clause-told
+returns-in-Some-Emulate-clause-told g c =
+    let words = map string_bytes c.args.words.now in
+    let is = asked_is (command_in words) c.in_ok-command.command c.built.result c.in-Some-Emulate.field-0 c.in_ok-command.ensures.ok c.built.ensures.value c.in-Some-Emulate.is in
+    subst (λ q. IfSome (g.D.Desk.world c.args.desk.now).files (λ files. Told said_of (reply_to files q) c.emulate.result))
+    (sym (is ∙ ap (λ a. Some (asked_of a)) c.in-Some-Emulate.field-0-is)) c.emulate.ensures.told
+
+pub returns-in-Some-Run-clause-told : goal.returns-in-Some-Run-clause-told
+returns-in-Some-Run-clause-told g c =
+    let words = map string_bytes c.args.words.now in
+    let is = asked_is (command_in words) c.in_ok-command.command c.built.result c.in-Some-Run.field-0 c.in_ok-command.ensures.ok c.built.ensures.value c.in-Some-Run.is in
+    subst (λ q. IfSome (g.D.Desk.world c.args.desk.now).files (λ files. Told said_of (reply_to files q) c.run.result))
+    (sym (is ∙ ap (λ a. Some (asked_of a)) c.in-Some-Run.field-0-is)) c.run.ensures.told
+
+pub returns-in-Some-Predict-clause-told : goal.returns-in-Some-Predict-clause-told
+returns-in-Some-Predict-clause-told g c =
+    let words = map string_bytes c.args.words.now in
+    let is = asked_is (command_in words) c.in_ok-command.command c.built.result c.in-Some-Predict.field-0 c.in_ok-command.ensures.ok c.built.ensures.value c.in-Some-Predict.is in
+    subst (λ q. IfSome (g.D.Desk.world c.args.desk.now).files (λ files. Told said_of (reply_to files q) c.predict.result))
+    (sym (is ∙ ap (λ a. Some (asked_of a)) c.in-Some-Predict.field-0-is)) c.predict.ensures.told
+
 pub returns-clause-told : goal.returns-clause-told
 returns-clause-told g c =
     let words = map string_bytes c.args.words.now in

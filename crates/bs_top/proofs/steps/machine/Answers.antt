@@ -1,8 +1,13 @@
-use Rattle.std.proofs.Common.{refl, sym, subst, Err}
+use Rattle.std.proofs.Common.{refl, sym, subst, Err, ℕ}
 use Rattle.bs_machine.specs.Machine.{machine_view}
 use Rattle.bs_top.specs.Answer.{machine_named}
 use Rattle.bs_top.specs.Seen.{word_of}
+use Rattle.bs_top.specs.Causes.{StepCause}
 use Rattle.bs_top.specs.Step.{Told}
+use Rattle.bs_machine.specs.declared.machine.Machine.{Machine}
+use Rattle.std.specs.declared.vec.Vec.{Vec}
+use Rattle.std.specs.declared.alloc.Global.{Global}
+use Rattle.bs_top.proofs.Bounded.{computed, has_read, stopped}
 use Rattle.bs_top.proofs.Machines.{of_flat, of_no_file, of_file}
 use Rattle.bs_top.proofs.Stages.{always, at_stop, each}
 use Rattle.bs_top.proofs.steps.machine.Goals as goal
@@ -26,3 +31,21 @@ returns-in_ok-bytes-in-File-clause-told g c =
     each old old _ _ refl (λ files h.
     subst (λ w. Told machine_view (machine_named files (word_of w)) c.machine_of_file.result) (sym c.in-File.is)
     (of_file files c.in-File.name.now c.in_ok-bytes-in-File.bytes.items c.machine_of_file.result h (rw c.as_slice.ensures.value at c.machine_of_file.ensures.told))) c.in_ok-bytes-in-File.ensures.told
+
+pub returns-in_err-bytes-in-File-clause-cause : goal.returns-in_err-bytes-in-File-clause-cause
+returns-in_err-bytes-in-File-clause-cause g c read =
+    let old = g.D.Desk.world c.args.desk.now in
+    let new = g.D.Desk.world c.file.new.desk in
+    at_stop (StepCause {A = Machine} c.args._most old new) c.in_err-bytes-in-File.field-0.0 c.from_residual.result c.from_residual.ensures.1
+    (stopped c.args._most old new (Vec ℕ Global) Machine c.requires c.in_err-bytes-in-File.field-0.0 c.in_err-bytes-in-File.ensures.cause)
+
+pub returns-in-Flat-clause-cause : goal.returns-in-Flat-clause-cause
+returns-in-Flat-clause-cause g c read =
+    let old = g.D.Desk.world c.args.desk.now in
+    computed c.args._most old old c.flat_machine.result c.flat_machine.ensures.kind read
+
+pub returns-in_ok-bytes-in-File-clause-cause : goal.returns-in_ok-bytes-in-File-clause-cause
+returns-in_ok-bytes-in-File-clause-cause g c read =
+    let old = g.D.Desk.world c.args.desk.now in
+    let new = g.D.Desk.world c.file.new.desk in
+    computed c.args._most old new c.machine_of_file.result c.machine_of_file.ensures.kind (has_read c.args._most new c.requires c.in_ok-bytes-in-File.ensures.cause)

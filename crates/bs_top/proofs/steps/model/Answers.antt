@@ -34,5 +34,5 @@ returns-clause-told g c =
     let mid = (g.D.Desk.world c.accepted.new.desk).files in
     let m = machine_view c.in_ok-machine.machine in
     each_two old mid _ _ _ (ap (λ (o : Outside). o.files) c.in_ok-accepted.ensures.reading) (λ files h k.
-    on_machine files c.args.name.now c.in_ok-accepted.accepted.program h (word_of c.args.word) c.args.limit m c.run.result k
-    c.run.ensures.told) c.in_ok-accepted.ensures.told c.in_ok-machine.ensures.told
+    on_machine files c.args.name.now c.in_ok-accepted.accepted.program h (word_of c.args.word) c.args.limit m c.run_model.result k
+    c.run_model.ensures.told) c.in_ok-accepted.ensures.told c.in_ok-machine.ensures.told

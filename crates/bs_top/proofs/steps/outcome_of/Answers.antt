@@ -1,9 +1,9 @@
-use Rattle.bs_model.specs.Simulated.{IsDecided}
 use Rattle.std.proofs.Common.{subst}
-use Rattle.bs_top.proofs.Simulating.{clean_at}
+use Rattle.bs_model.specs.Simulated.{IsDecided}
+use Rattle.bs_top.proofs.Simulating.{passes}
 use Rattle.bs_top.proofs.steps.outcome_of.Goals as goal
 
-pub unreachable-requires : goal.unreachable-requires
-unreachable-requires c =
-    let clean = clean_at c.args.accepted.now.program c.args.limit c.requires.clean in
-    subst (IsDecided c.args.accepted.now.program c.args.limit) c.in-Unclean.is c.in_ok-outcome.ensures.decided clean.0 clean.1
+pub returns-in-Timed-clause-told : goal.returns-in-Timed-clause-told
+returns-in-Timed-clause-told c =
+    let clean = subst (IsDecided c.args.accepted.now.program c.args.limit) c.in-Timed.is c.in_ok-outcome.ensures.decided in
+    passes c.args.accepted.now.program c.args.limit clean.0 clean.1

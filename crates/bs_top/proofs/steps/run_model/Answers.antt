@@ -1,12 +1,13 @@
-use Rattle.std.proofs.Common.{Err, Ok, subst, ◌∙◌}
+use Rattle.std.proofs.Common.{Err, Ok, ap, subst, ◌∙◌}
+use Rattle.bs_log.specs.declared.outcome.Outcome.{Outcome}
 use Rattle.bs_machine.specs.Machine.{machine_view}
 use Rattle.bs_machine.specs.declared.fitted.Fitted.{Fitted}
-use Rattle.bs_top.specs.Answer.{IsReport, fits, simulated}
+use Rattle.bs_top.specs.Answer.{fits, simulated}
 use Rattle.bs_top.specs.Seen.{said_of}
 use Rattle.bs_top.specs.Step.{Told}
 use Rattle.bs_top.proofs.Simulating.{not_clean, ran, unfit}
 use Rattle.bs_top.proofs.Stages.{at_stop}
-use Rattle.bs_top.proofs.steps.run.Goals as goal
+use Rattle.bs_top.proofs.steps.run_model.Goals as goal
 
 pub returns-in_err-fitted-clause-told : goal.returns-in_err-fitted-clause-told
 returns-in_err-fitted-clause-told c =
@@ -16,17 +17,17 @@ returns-in_err-fitted-clause-told c =
     at_stop (Told said_of (simulated p m c.args.limit)) stop c.from_residual.result c.from_residual.ensures.1
     (unfit p m c.args.limit stop (subst (λ n. Told (λ (f : Fitted). tt) (fits n m) (Err stop)) c.chares.ensures c.in_err-fitted.ensures.told))
 
-pub returns-in_err-judge-clause-told : goal.returns-in_err-judge-clause-told
-returns-in_err-judge-clause-told c =
+pub returns-in_err-outcome-clause-told : goal.returns-in_err-outcome-clause-told
+returns-in_err-outcome-clause-told c =
     let p = c.args.accepted.now.program in
     let m = machine_view c.args.machine in
-    let stop = c.in_err-judge.field-0.0 in
+    let stop = c.in_err-outcome.field-0.0 in
     let fit = subst (λ n. fits n m (Ok tt)) c.chares.ensures c.in_ok-fitted.ensures.told in
-    at_stop (Told said_of (simulated p m c.args.limit)) stop c.from_residual-in_err-judge.result c.from_residual-in_err-judge.ensures.1
-    (not_clean p m c.args.limit fit stop c.in_err-judge.ensures.told)
+    at_stop (Told said_of (simulated p m c.args.limit)) stop c.from_residual-in_err-outcome.result c.from_residual-in_err-outcome.ensures.1
+    (not_clean p m c.args.limit fit (λ (o : Outcome). tt) stop c.in_err-outcome.ensures.told)
 
-pub report_of-requires-clause-chares : goal.report_of-requires-clause-chares
-report_of-requires-clause-chares c = c.in_ok-fitted.ensures.fitted.1 ∙ c.chares.ensures
+pub outcome_of-requires-clause-chares : goal.outcome_of-requires-clause-chares
+outcome_of-requires-clause-chares c = c.in_ok-fitted.ensures.fitted.1 ∙ c.chares.ensures
 
 pub returns-clause-told : goal.returns-clause-told
 returns-clause-told c =
@@ -34,5 +35,11 @@ returns-clause-told c =
     let m = machine_view c.args.machine in
     let said = said_of c.in_ok-report_of.field-0 in
     let fit = subst (λ n. fits n m (Ok tt)) c.chares.ensures c.in_ok-fitted.ensures.told in
-    ran p m c.args.limit fit c.in_ok-judge.ensures.told said
-    (subst (λ k. IsReport p (machine_view k) c.args.limit said) c.in_ok-fitted.ensures.fitted.0 c.in_ok-report_of.ensures)
+    ran p m c.args.limit fit c.in_ok-outcome.ensures.told said (record {
+      fitted = c.in_ok-fitted.fitted;
+      outcome = c.in_ok-outcome.outcome;
+      is_machine = ap machine_view c.in_ok-fitted.ensures.fitted.0;
+      is_fitted = c.in_ok-fitted.ensures.fitted.1 ∙ c.chares.ensures;
+      is_outcome = c.in_ok-outcome.ensures.serial;
+      is_said = c.in_ok-report_of.ensures;
+    })

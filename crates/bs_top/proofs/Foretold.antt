@@ -1,0 +1,41 @@
+-- What a log says of its times is what the serial machine model gives.
+use Rattle.std.proofs.Common.{◌≡◌, ℕ, List, length, refl, sym, ap, ◌∙◌, subst, Ok}
+use Rattle.bs_log.specs.Collected.{log_of}
+use Rattle.bs_log.specs.declared.history.History.{History}
+use Rattle.bs_log.specs.declared.outcome.Outcome.{Outcome}
+use Rattle.bs_machine.specs.Machine.{MachineOf}
+use Rattle.bs_semantics.specs.Serial.{IsSerial, Machine, timed}
+use Rattle.bs_semantics.specs.Verdict.{IsVerdict, clean}
+use Rattle.bs_times.specs.Machine.{IsTimely, machine_of}
+use Rattle.bs_times.specs.Net.{Starts, net_of}
+use Rattle.bs_times.specs.Outcomes.{outcome_of}
+use Rattle.bs_times.specs.Times.{IsConsistent}
+use Rattle.bs_tree.specs.declared.tree.Program.{Program}
+use Rattle.bs_top.specs.Answer.{Answer, IsPrediction, IsReport, answer_of, reported}
+use Rattle.bs_top.specs.Complete.{IsPredicted, IsReported}
+use Rattle.bs_top.specs.Step.{Said}
+use Rattle.bs_top.proofs.AsModel.{verdict_count}
+use Rattle.bs_top.proofs.OneAnswer.{OneSerial}
+use Rattle.bs_top.proofs.OneLog.{LogLaws}
+use Rattle.bs_top.proofs.OneMachine.{one_machine}
+
+outcome_is : (o q : Outcome) → timed o ≡ timed q → o ≡ q
+outcome_is o q e = cc
+
+module _ (serial : OneSerial) (p : Program) (limit : ℕ) (hs : List History) (verdict : IsVerdict p limit (clean hs))
+    (told : (m : Machine) (s : Starts) → IsTimely m → IsConsistent (net_of (log_of hs (length p.entries)) m) s → IsSerial p limit m (timed (outcome_of (log_of hs (length p.entries)) m s)))
+    (logs : LogLaws) (m : MachineOf) where
+  count : (log_of hs (length p.entries)).chares ≡ p.chares
+  unfolding log_of
+  count = verdict_count p limit (clean hs) verdict hs refl
+
+  one_said : (a b : Said) → IsReport p m limit a → IsPrediction (log_of hs (length p.entries)) m b → b ≡ a
+  one_said a b h k =
+      let machine = one_machine k.fitted h.fitted (k.is_machine ∙ sym h.is_machine) (k.is_fitted ∙ (count ∙ sym h.is_fitted)) in
+      let given = told (machine_of k.fitted) k.starts (logs.timely k.fitted) k.is_consistent in
+      let o = outcome_of (log_of hs (length p.entries)) (machine_of k.fitted) k.starts in
+      let same = outcome_is o h.outcome (serial p limit (machine_of h.fitted) (timed o) (timed h.outcome) (subst (λ m. IsSerial p limit m (timed o)) machine given) h.is_outcome) in
+      k.is_said ∙ ap reported same ∙ sym h.is_said
+
+  pub as_serial : (a b : Answer) → IsReported p m limit a → IsPredicted (log_of hs (length p.entries)) m b → b ≡ a
+  as_serial a b h k = k.2 ∙ ap (λ s. answer_of (Ok s)) (one_said h.0 k.0 h.1 k.1) ∙ sym h.2

@@ -1,0 +1,27 @@
+use Rattle.std.proofs.Common.{length}
+use Rattle.bs_log.specs.Collected.{log_of}
+use Rattle.bs_top.proofs.AsModel.{answers_as_model, answers_as_run}
+use Rattle.bs_top.proofs.Completing.{predicts, reports}
+use Rattle.bs_top.proofs.Foretold.{as_serial}
+use Rattle.bs_top.proofs.OneLog.{LogLaws}
+use Rattle.bs_top.proofs.laws.headline.Goals as goal
+
+-- what is known of logs
+logs : goal.After-verdict_times → LogLaws
+logs c = record {
+  text = c.one_text.ensures;
+  fault = c.one_fault-2.ensures.one;
+  none = c.one_fault-2.ensures.none;
+  small = c.texts_are_small.ensures;
+  timely = c.timely_machines.ensures;
+  outcome = c.one_outcome.ensures;
+}
+
+pub returns-clause-run : goal.returns-clause-run
+returns-clause-run c files name word limit a = (answers_as_model files name word limit a, answers_as_run files name word limit a)
+
+pub returns-clause-predict : goal.returns-clause-predict
+returns-clause-predict c files later name into word other limit p histories m a b can verdict has is_model is_predicted =
+    let reported = reports files c.one_program.ensures c.one_fault.ensures c.no_both.ensures c.verdict.ensures.one c.one_serial.ensures (logs c) name word limit p m a can is_model in
+    let predicted = predicts later c.one_program.ensures c.one_fault.ensures c.no_both.ensures c.verdict.ensures.one c.one_serial.ensures (logs c) into other (log_of histories (length p.entries)) m b has is_predicted in
+    as_serial c.one_serial.ensures p limit histories verdict (λ machine s timely table. c.verdict_times.ensures.told p limit machine histories s timely verdict table) (logs c) m a b reported predicted
