@@ -1,0 +1,6 @@
+mod NumbersIn
+mod Spelled
+mod Values
+mod Acts
+mod Runs
+mod Rounds
