@@ -76,6 +76,12 @@ pub record CanPredict (files : Files) (name : List ℕ) (word : MachineWord) (ke
   pub machine : HasMachine files word m
   pub is_fitting : IsTrue (has_length m.place kept.chares)
 
+-- the file of that name holds the text of a log, and there is a machine that fits the log
+pub record CanForetell (files : Files) (name : List ℕ) (word : MachineWord) (kept : Log) (m : MachineOf) : Type 0 where
+  pub is_there : map.get files name ≡ Some (log_text kept)
+  pub machine : HasMachine files word m
+  pub is_fitting : IsTrue (has_length m.place kept.chares)
+
 -- the answer is the report of the log's outcome on the machine at the log's one consistent table
 abbrev pub IsPredicted : Log → MachineOf → Answer → Type 0
 IsPredicted kept m answer = (said : Said) × IsPrediction kept m said × (answer ≡ answer_of (Ok said))

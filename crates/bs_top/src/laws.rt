@@ -8,9 +8,9 @@ ghost use Rattle.bs_machine.specs.Machine.{MachineOf};
 ghost use Rattle.bs_semantics.specs.Verdict.{IsVerdict, clean};
 ghost use Rattle.bs_tree.specs.declared.tree.Program.{Program};
 ghost use Rattle.bs_top.specs.Answer.{Answer, IsAnswer, answer_of};
-ghost use Rattle.bs_top.specs.Complete.{CanEmulate, CanPredict, CanRun, Ends, HasProgram, IsPredicted, IsReported, canonical, logged_in};
+ghost use Rattle.bs_top.specs.Complete.{CanEmulate, CanForetell, CanPredict, CanRun, Ends, HasProgram, IsPredicted, IsReported, canonical, logged_in};
 ghost use Rattle.bs_top.specs.Performs.{Answers};
-ghost use Rattle.bs_top.specs.Words.{Asked, MachineWord, check, emulate, model, predict, run};
+ghost use Rattle.bs_top.specs.Words.{Asked, IsLimit, MachineWord, check, emulate, model, predict, run};
 ghost use Rattle.bs_top.specs.declared.status.Status.{Status};
 
 /// For given contents of the files a command has one answer.
@@ -70,15 +70,19 @@ pub fn complete()
 }
 
 /// **The headline.** What `run` answers is what `model` answers, whatever the files hold (`run`). And
-/// where a file holds the text of the log of a program's Clean round, what `predict` answers on a
-/// machine is what `model` answers to the program on that machine (`predict`): the report of the serial
-/// machine model, from the log alone.
+/// where a file holds the text of the log of a program's Clean round, at a limit that a command may have,
+/// what `predict` answers on a machine is what `model` answers to the program on that machine
+/// (`predict`): the report of the serial machine model, from the log alone.
 ///
-/// That log is what `emulate` writes (the law `complete`). It is valid, as `emulate` shows of each log
-/// before it writes it.
+/// That log is what `emulate` writes (the law `complete`). It is valid, by the law
+/// `clean_logs_are_valid` of `bs_range`. At a number above each such limit the log may have too many
+/// lines; where it is valid the same holds there (`valid`).
 pub fn headline()
     ensures run { (files : Files) (name : List ℕ) (word : MachineWord) (limit : ℕ) (a : Answer) → IsAnswer files (Some (run name word limit)) a ↔ IsAnswer files (Some (model name word limit)) a }
     ensures predict { (files later : Files) (name into : List ℕ) (word other : MachineWord) (limit : ℕ) (p : Program) (histories : List History) (m : MachineOf) (a b : Answer) →
+        IsLimit limit → CanRun files name word limit p m → IsVerdict p limit (clean histories) → CanForetell later into other (log_of histories (length p.entries)) m →
+        IsAnswer files (Some (model name word limit)) a → IsAnswer later (Some (predict into other)) b → b ≡ a }
+    ensures valid { (files later : Files) (name into : List ℕ) (word other : MachineWord) (limit : ℕ) (p : Program) (histories : List History) (m : MachineOf) (a b : Answer) →
         CanRun files name word limit p m → IsVerdict p limit (clean histories) → CanPredict later into other (log_of histories (length p.entries)) m →
         IsAnswer files (Some (model name word limit)) a → IsAnswer later (Some (predict into other)) b → b ≡ a }
 {
@@ -93,4 +97,5 @@ pub fn headline()
     bs_times::laws::timely_machines();
     bs_times::laws::one_outcome();
     bs_serial::laws::verdict_times();
+    bs_range::laws::clean_logs_are_valid();
 }

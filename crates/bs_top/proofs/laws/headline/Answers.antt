@@ -7,7 +7,7 @@ use Rattle.bs_top.proofs.OneLog.{LogLaws}
 use Rattle.bs_top.proofs.laws.headline.Goals as goal
 
 -- what is known of logs
-logs : goal.After-verdict_times → LogLaws
+logs : goal.After-clean_logs_are_valid → LogLaws
 logs c = record {
   text = c.one_text.ensures;
   fault = c.one_fault-2.ensures.one;
@@ -20,8 +20,15 @@ logs c = record {
 pub returns-clause-run : goal.returns-clause-run
 returns-clause-run c files name word limit a = (answers_as_model files name word limit a, answers_as_run files name word limit a)
 
-pub returns-clause-predict : goal.returns-clause-predict
-returns-clause-predict c files later name into word other limit p histories m a b can verdict has is_model is_predicted =
+pub returns-clause-valid : goal.returns-clause-valid
+returns-clause-valid c files later name into word other limit p histories m a b can verdict has is_model is_predicted =
     let reported = reports files c.one_program.ensures c.one_fault.ensures c.no_both.ensures c.verdict.ensures.one c.one_serial.ensures (logs c) name word limit p m a can is_model in
     let predicted = predicts later c.one_program.ensures c.one_fault.ensures c.no_both.ensures c.verdict.ensures.one c.one_serial.ensures (logs c) into other (log_of histories (length p.entries)) m b has is_predicted in
     as_serial c.one_serial.ensures p limit histories verdict (λ machine s timely table. c.verdict_times.ensures.told p limit machine histories s timely verdict table) (logs c) m a b reported predicted
+
+pub returns-clause-predict : goal.returns-clause-predict
+returns-clause-predict c files later name into word other limit p histories m a b limits can verdict has is_model is_predicted =
+    let program = can.program in
+    let valid = c.clean_logs_are_valid.ensures.verdict program.text p limit histories limits.1 program.is_spelled program.is_kept verdict in
+    returns-clause-valid c files later name into word other limit p histories m a b can verdict
+    (record { log = record { is_there = has.is_there; is_valid = valid }; machine = has.machine; is_fitting = has.is_fitting }) is_model is_predicted
