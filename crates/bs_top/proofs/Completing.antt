@@ -19,7 +19,7 @@ use Rattle.bs_top.specs.Performs.{Answers, WritesAnswer}
 use Rattle.bs_top.specs.Step.{Said, and_then}
 use Rattle.bs_top.specs.Words.{Asked, MachineWord, check, model, emulate, run, predict, flat, file}
 use Rattle.bs_top.proofs.OneAnswer.{OneSerial, OneVerdict, one_accepted, one_contents, one_fit, one_judged, one_named, one_reply}
-use Rattle.bs_top.proofs.OneLog.{LogLaws, one_log, valid_log}
+use Rattle.bs_top.proofs.OneLog.{LogLaws, one_log}
 use Rattle.bs_top.proofs.OneStep.{past}
 use Rattle.bs_top.proofs.Reading.{read_whole}
 use Rattle.bs_top.proofs.AsModel.{answers_as_model}

@@ -1,5 +1,5 @@
 -- A text is that of one log at most, or has one first fault, and a log has one prediction on a machine.
-use Rattle.std.proofs.Common.{◌≡◌, ◌<◌, ℕ, List, length, refl, sym, ap, ◌∙◌, subst, Option, Some, Result, Ok, Err}
+use Rattle.std.proofs.Common.{◌≡◌, ◌<◌, ℕ, List, length, sym, ap, ◌∙◌, subst, Ok, Err}
 use Rattle.bs_desk.specs.Outside.{Files}
 use Rattle.bs_log.specs.declared.log.Log.{Log}
 use Rattle.bs_log.specs.Valid.{IsValid}
@@ -16,10 +16,9 @@ use Rattle.bs_times.specs.Machine.{IsTimely, machine_of}
 use Rattle.bs_times.specs.Net.{Starts, net_of}
 use Rattle.bs_times.specs.Outcomes.{outcome_of}
 use Rattle.bs_times.specs.Times.{IsConsistent}
-use Rattle.bs_top.specs.declared.stop.Stop.{Stop}
 use Rattle.bs_top.specs.declared.stop.Stop.TheVariants.{Refused}
 use Rattle.bs_top.specs.Answer.{IsLogFault, IsPrediction, contents, fits, log_in, log_limit, log_named, predicted, reported, timed_on}
-use Rattle.bs_top.specs.Step.{Said, Step}
+use Rattle.bs_top.specs.Step.{Said}
 use Rattle.bs_top.proofs.OneMachine.{one_machine}
 use Rattle.bs_top.proofs.OneStep.{IsOne, one_after}
 
