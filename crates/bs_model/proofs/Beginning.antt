@@ -1,6 +1,5 @@
 -- The state before any block is started.
-use Rattle.std.proofs.Common.{◌≡◌, ◌≤◌, ◌<◌, ◌+◌, ℕ, zero, suc, List, [], ◌∷◌, Option, Some, None, length, slice_get, get_or, replicate, map, refl, sym, ap, subst, ◌∙◌, arith}
-use Rattle.std.proofs.lemmas.Option.{slice_get_within}
+use Rattle.std.proofs.Common.{◌≡◌, ◌≤◌, ◌<◌, ℕ, zero, suc, List, [], ◌∷◌, Option, Some, None, length, slice_get, get_or, replicate, refl, sym, ap, subst, ◌∙◌, arith}
 use Rattle.bs_tree.specs.declared.tree.Program.{Program}
 use Rattle.bs_log.specs.declared.history.Message.{Message}
 use Rattle.bs_log.specs.declared.history.History.{History}
@@ -10,7 +9,6 @@ use Rattle.bs_machine.specs.Fitted.{processors_of}
 use Rattle.bs_match.specs.Mail.{lookup}
 use Rattle.bs_semantics.specs.Run.{history}
 use Rattle.bs_semantics.specs.Rounds.{CleanAt, histories, mail_to}
-use Rattle.bs_semantics.specs.Reached.{begins}
 use Rattle.bs_semantics.proofs.Starting.{partly}
 use Rattle.bs_model.specs.declared.book.Book.{Book}
 use Rattle.bs_model.specs.declared.candidates.Best.{Best}
@@ -19,6 +17,7 @@ use Rattle.bs_model.specs.Book.{at_key, found, keyed}
 use Rattle.bs_model.specs.Mails.{mail_in}
 use Rattle.bs_model.specs.Next.{best_among}
 use Rattle.bs_model.specs.Ready.{AreBooked}
+use Rattle.bs_model.specs.Started.{none_yet}
 use Rattle.bs_model.specs.State.{Follows}
 use Rattle.bs_model.proofs.Places.{at_number, numbered}
 use Rattle.bs_model.proofs.Pushing.{Pushed}
@@ -48,7 +47,7 @@ pub follows_none : (p : Program) (limit : ℕ) (m : Fitted) (t : State) → keye
     → Pushed (λ (c : ℕ) (o : Option (Option Best)). best_among m t.book c (Some (history p limit c (lookup []))) o) p.chares t.bests.items
     → Follows p limit m [] t
 follows_none p limit m t book processors ends mails histories bests = record {
-  reached = begins;
+  started = none_yet;
   book = book;
   processors = processors;
   ends = λ q l. ends q;

@@ -1,13 +1,12 @@
 -- The best of blocks and the least of chares, one after the other.
-use Rattle.std.proofs.Common.{◌≡◌, ◌≤◌, ◌<◌, ◌+◌, ◌⊎◌, inl, inr, ℕ, ◌==◌, max, Bool, true, false, if◌then◌else◌, nat_lt, nat_le, List, Option, Some, None, length, slice_get, get_or, refl, sym, ap, subst, ◌∙◌, arith, eqb-true}
+use Rattle.std.proofs.Common.{◌≡◌, ◌≤◌, ◌<◌, ◌+◌, ◌⊎◌, inl, inr, ℕ, ◌==◌, Bool, true, false, if◌then◌else◌, nat_lt, nat_le, List, Option, Some, None, length, slice_get, refl, sym, ap, subst, ◌∙◌, arith, eqb-true}
 use Rattle.std.proofs.lemmas.Bool.{cases_lt, leb-true, leb-false, ltb-true, ltb-false, eqb-false}
 use Rattle.std.proofs.lemmas.Option.{slice_get_within}
 use Rattle.bs_log.specs.declared.history.Block.{Block}
 use Rattle.bs_machine.specs.declared.fitted.Fitted.{Fitted}
-use Rattle.bs_machine.specs.Fitted.{home_of}
 use Rattle.bs_model.specs.declared.candidates.Best.{Best}
 use Rattle.bs_model.specs.declared.candidates.Next.{Next}
-use Rattle.bs_model.specs.Next.{better_of, IsBest, IsBestAt, is_before_in, lesser_of, next_of, IsUpTo, IsLeast, IsLeastAt}
+use Rattle.bs_model.specs.Next.{better_of, IsBest, lesser_of, next_of, IsUpTo, IsLeast}
 
 -- ---- the blocks of a chare
 

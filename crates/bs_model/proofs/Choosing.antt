@@ -1,9 +1,9 @@
 -- The least of the chares' best blocks is the next one of the serial machine model.
-use Rattle.std.proofs.Common.{◌≡◌, ◌≤◌, ◌<◌, ◌⊎◌, inl, inr, ℕ, zero, suc, ◌+◌, max, List, [], ◌∷◌, Option, Some, None, length, slice_get, get_or, map, option_map, refl, sym, ap, ap₂, subst, ◌∙◌, arith}
+use Rattle.std.proofs.Common.{◌≡◌, ◌≤◌, ◌<◌, ◌⊎◌, inl, inr, ℕ, zero, suc, max, List, [], ◌∷◌, Option, Some, None, length, slice_get, get_or, option_map, refl, sym, ap, ap₂, subst, ◌∙◌, arith}
 use Rattle.std.specs.Ordering.{nat_cmp}
 use Rattle.std.specs.declared.cmp.Ordering.TheVariants.{Less}
 use Rattle.std.specs.Cmp.Lexicographic.{slice_cmp}
-use Rattle.std.proofs.lemmas.Bool.{cases_lt, cases_order}
+use Rattle.std.proofs.lemmas.Bool.{cases_lt}
 use Rattle.std.proofs.lemmas.Option.{slice_get_within}
 use Rattle.bs_tree.specs.declared.tree.Program.{Program}
 use Rattle.bs_log.specs.declared.history.Block.{Block}
@@ -14,19 +14,19 @@ use Rattle.bs_machine.proofs.Bounds.{has_bounds}
 use Rattle.bs_semantics.specs.Run.{history}
 use Rattle.bs_semantics.specs.Rounds.{Mem, chares, mail_to}
 use Rattle.bs_semantics.specs.Orderly.{InOrder}
-use Rattle.bs_semantics.specs.Serial.{Started, messages, find, ready, free, would_start, Earlier, IsEnabled, IsCandidate, IsNext}
+use Rattle.bs_semantics.specs.Serial.{Started, messages, find, ready, free, would_start, Earlier, IsEnabled, IsNext}
 use Rattle.bs_semantics.proofs.Rising.{run_rising}
-use Rattle.bs_semantics.proofs.Reached.{apart}
 use Rattle.bs_model.specs.declared.candidates.Best.{Best}
 use Rattle.bs_model.specs.declared.candidates.Next.{Next}
 use Rattle.bs_model.specs.declared.state.State.{State}
 use Rattle.bs_model.specs.Book.{at_key, found}
 use Rattle.bs_times.specs.Machine.{machine_of}
-use Rattle.bs_model.specs.Next.{IsBest, IsBestAt, IsLeast, IsLeastAt, IsUpTo, next_of, best_among}
+use Rattle.bs_model.specs.Next.{IsBest, IsBestAt, IsLeastAt, IsUpTo, next_of, best_among}
 use Rattle.bs_model.specs.Ready.{candidate_in}
 use Rattle.bs_model.specs.State.{Follows, begun_of}
 use Rattle.bs_model.proofs.Places.{count_numbers, mem_get, place_of, at_number, chare_in, below_of}
 use Rattle.bs_model.proofs.Entries.{finds_same}
+use Rattle.bs_model.proofs.Running.{differ}
 use Rattle.bs_model.proofs.Enabled.{is_candidate, CanStart, can_start}
 
 -- of a list in order, an item before another one
@@ -39,7 +39,7 @@ ordered_at R (z ∷ xs) (suc i) (suc j) x y h e f l = ordered_at R xs i j x y h.
 
 module _ (p : Program) (limit : ℕ) (m : Fitted) (bs : List Started) (s : State) (f : Follows p limit m bs s) where
   pub tied : (c : ℕ) (path : List ℕ) → found s.book c path ≡ option_map (begun_of m) (find bs c path)
-  tied c path = ap (λ es. at_key es (c ∷ path)) f.book ∙ finds_same m bs (apart p limit (machine_of m) bs f.reached) c path
+  tied c path = ap (λ es. at_key es (c ∷ path)) f.book ∙ finds_same m bs (differ p limit (machine_of m) bs f.started) c path
 
   abbrev pub history_of : ℕ → History
   history_of c = history p limit c (mail_to (messages bs) c)

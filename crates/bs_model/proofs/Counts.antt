@@ -1,5 +1,5 @@
 -- No more blocks are started than the limit: they are different blocks of the histories.
-use Rattle.std.proofs.Common.{◌≡◌, ◌≤◌, ◌⊎◌, inl, inr, ℕ, zero, suc, ◌+◌, List, [], ◌∷◌, ◌++◌, length, map, refl, sym, ap, ap₂, subst, ◌∙◌, arith}
+use Rattle.std.proofs.Common.{◌≡◌, ◌≤◌, inl, inr, ℕ, zero, suc, ◌+◌, List, [], ◌∷◌, length, map, refl, sym, ap, ap₂, subst, ◌∙◌, arith}
 use Rattle.std.specs.Cmp.{IsTotalOrder}
 use Rattle.std.specs.declared.cmp.Ordering.TheVariants.{Equal}
 use Rattle.std.proofs.lemmas.List.{length-append, length-map}
@@ -7,14 +7,13 @@ use Rattle.std.proofs.lemmas.Cmp.{nat_cmp_total, nat_list_cmp_total, on_total, t
 use Rattle.bs_tree.specs.declared.tree.Program.{Program}
 use Rattle.bs_log.specs.declared.history.Block.{Block}
 use Rattle.bs_log.specs.declared.history.History.{History}
-use Rattle.bs_log.specs.Size.{size_all}
 use Rattle.bs_semantics.specs.Run.{Lookup, history}
-use Rattle.bs_semantics.specs.Rounds.{Mem, CleanAt, chares, from_to, mail_to}
+use Rattle.bs_semantics.specs.Rounds.{Mem, CleanAt, from_to, mail_to}
 use Rattle.bs_semantics.specs.Depth.{all_blocks}
 use Rattle.bs_semantics.specs.Orderly.{InOrder}
 use Rattle.bs_semantics.specs.Serial.{Machine, Started, messages, histories_at, started_cmp}
 use Rattle.bs_semantics.specs.Reached.{IsReached, Placed, blocks_from, placed}
-use Rattle.bs_semantics.proofs.Members.{mem_left, mem_right, mem_cases, mem_map, map_of, MapOf, in_order_map}
+use Rattle.bs_semantics.proofs.Members.{mem_left, mem_right, mem_map, map_of, MapOf, in_order_map}
 use Rattle.bs_semantics.proofs.Reached.{apart, reached_blocks, reached_clean}
 use Rattle.bs_semantics.proofs.Sizes.{count_all}
 

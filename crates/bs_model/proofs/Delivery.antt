@@ -1,22 +1,21 @@
 -- Messages that are put into mails, the last one first.
-use Rattle.std.proofs.Common.{◌≡◌, ◌≤◌, ◌<◌, ◌+◌, ◌⊎◌, inl, inr, ℕ, ◌==◌, Bool, true, false, if◌then◌else◌, List, [], ◌∷◌, ◌++◌, Option, Some, None, IsSome, length, slice_get, slice_set, get_or, replicate, map, refl, sym, ap, ap₂, subst, ◌∙◌, arith, eqb-true}
+use Rattle.std.proofs.Common.{◌≡◌, ◌≤◌, ◌<◌, ◌⊎◌, inl, inr, ℕ, ◌==◌, Bool, true, false, if◌then◌else◌, List, [], ◌∷◌, ◌++◌, Option, Some, None, length, slice_get, slice_set, get_or, map, refl, sym, ap, ap₂, subst, ◌∙◌, arith, eqb-true}
 use Rattle.std.proofs.lemmas.Bool.{eqb-false}
 use Rattle.std.proofs.lemmas.List.{length-set}
-use Rattle.std.proofs.lemmas.Option.{slice_get_within, slice_get-get_or}
+use Rattle.std.proofs.lemmas.Option.{slice_get-get_or}
 use Rattle.std.specs.Ordering.{is_eq}
 use Rattle.std.specs.declared.cmp.Ordering.TheVariants.{Less}
 use Rattle.std.specs.List.{AllByRecursion}
 use Rattle.std.specs.List.Sorted.{IsStrictlySortedBy}
-use Rattle.bs_tree.specs.declared.tree.Program.{Program}
-use Rattle.bs_log.specs.declared.history.Key.{Key}
 use Rattle.bs_log.specs.declared.history.Message.{Message}
-use Rattle.bs_log.specs.declared.history.History.{History}
 use Rattle.bs_match.specs.Mail.{key_cmp, lookup, with_message}
 use Rattle.bs_match.proofs.Keys.{is_same, same_key_is, same_key_refl}
+use Rattle.bs_match.proofs.Sent.{apart, apart_from}
 use Rattle.bs_semantics.specs.Run.{Lookup}
-use Rattle.bs_semantics.specs.Rounds.{Mem, same_key}
-use Rattle.bs_semantics.proofs.Members.{mem_left, mem_right}
-use Rattle.bs_model.specs.Mails.{mail_in, mail_at, mail_after, AreDelivered, AreKept, CanDeliver, IsShallow, AreShallow}
+use Rattle.bs_semantics.specs.Rounds.{Mem, Apart, mail_to, one_key, same_key}
+use Rattle.bs_semantics.proofs.Mails.{found, hits, is_for_is}
+use Rattle.bs_semantics.proofs.Members.{mem_left, mem_right, mem_cases}
+use Rattle.bs_model.specs.Mails.{mail_in, mail_at, mail_after, AreDelivered, AreFor, AreKept, CanDeliver, CanPut, IsShallow}
 use Rattle.bs_model.proofs.Places.{get_set_same, get_set_other, mem_at}
 
 abbrev put_one : ℕ → Lookup → Message → Lookup
@@ -27,24 +26,37 @@ after_push c mail [] m = refl
 after_push c mail (x ∷ ms) m = ap (λ (l : Lookup). if x.sent.to == c then with_message x l else l) (after_push c mail ms m)
 
 -- the messages so far, from the last one on, were put into the mails
-pub record Delivering (old : List (List Message)) (all : List Message) (now : List (List Message)) (heard : List Bool) (rest : List Message) : Type 0 where
+pub record Delivering (limit : ℕ) (old : List (List Message)) (all : List Message) (now : List (List Message)) (heard : List Bool) (rest : List Message) : Type 0 where
   pub count : length now ≡ length old
   pub heard_count : length heard ≡ length old
   pub mails : (c : ℕ) → c < length old → mail_after c (mail_at now c) rest ≡ mail_after c (mail_at old c) all
   pub kept : (c : ℕ) → slice_get heard c ≡ Some false → mail_at now c ≡ mail_at old c
-  pub can : CanDeliver now rest
+  pub target : AreFor (length old) rest
+  pub left : CanDeliver limit old all → CanDeliver limit now rest
+  pub given : CanDeliver limit now rest → CanDeliver limit old all
 
-pub delivers_none : (old : List (List Message)) (all : List Message) (heard : List Bool) → length heard ≡ length old → CanDeliver old all → Delivering old all old heard all
-delivers_none old all heard e can = record { count = refl; heard_count = e; mails = λ c l. refl; kept = λ c e. refl; can = can }
+pub delivers_none : (limit : ℕ) (old : List (List Message)) (all : List Message) (heard : List Bool) → length heard ≡ length old → AreFor (length old) all → Delivering limit old all old heard all
+delivers_none limit old all heard e target = record { count = refl; heard_count = e; mails = λ c l. refl; kept = λ c e. refl; target = target; left = λ h. h; given = λ h. h }
 
-module _ (old : List (List Message)) (all : List Message) (mails : List (List Message)) (heard : List Bool) (rest : List Message) (m : Message) (d : Delivering old all mails heard (rest ++ m ∷ [])) where
+pub none_if : {A : Type 0} (o : Option A) → ((x : A) → o ≡ Some x → ⊥) → o ≡ None
+none_if None f = refl
+none_if (Some x) f = absurd (f x refl)
+
+not_none : {A : Type 0} (o : Option A) (x : A) → o ≡ None → o ≡ Some x → ⊥
+not_none o x e f = cc
+
+module _ (limit : ℕ) (old : List (List Message)) (all : List Message) (mails : List (List Message)) (heard : List Bool) (rest : List Message) (m : Message) (d : Delivering limit old all mails heard (rest ++ m ∷ [])) where
   pub is_last : Mem m (rest ++ m ∷ [])
   is_last = mem_right m rest (m ∷ []) (inl refl)
 
   pub in_range : m.sent.to < length mails
-  in_range = d.can.target m is_last
+  in_range = let l = d.target m is_last in let k = d.count in omega (arith, l, k)
 
-  module _ (held : List Message) (is : lookup held ≡ with_message m (mail_at mails m.sent.to)) where
+  -- what is asked of all is asked of this one
+  pub can_put : CanDeliver limit old all → CanPut limit m (mail_at mails m.sent.to)
+  can_put h = (d.left h).each m is_last
+
+  module _ (held : List Message) (is : lookup held ≡ with_message m (mail_at mails m.sent.to)) (can : CanPut limit m (mail_at mails m.sent.to)) where
     abbrev after : List (List Message)
     after = slice_set mails m.sent.to held
 
@@ -68,44 +80,70 @@ module _ (old : List (List Message)) (all : List Message) (mails : List (List Me
         absurd (cc)
     kept_if c false e s = let n = eqb-false _ _ e in at_other c n ∙ d.kept c (sym (get_set_other heard m.sent.to c true n) ∙ s)
 
-    -- what one of the rest would find
-    found_key : (x y : Message) (t : Bool) → Mem x rest → m.sent.to ≡ x.sent.to → same_key m.sent.key x.sent.key ≡ t → (if t then Some m else mail_at mails x.sent.to x.sent.key) ≡ Some y → y ≡ x
-    found_key x y true i e k s =
-        let same : m ≡ y = cc in
-        sym same ∙ d.can.among x m (mem_left x rest (m ∷ []) i) is_last e (same_key_is _ _ k)
-    found_key x y false i e k s = d.can.held x y (mem_left x rest (m ∷ []) i) s
+    -- what is held of the key of another message, which isn't this one's
+    found_key : (y : Message) (t : Bool) → same_key m.sent.key y.sent.key ≡ t → (t ≡ true → ⊥) → (if t then Some m else mail_at mails y.sent.to y.sent.key) ≡ mail_at mails y.sent.to y.sent.key
+    found_key y true k n = absurd (n refl)
+    found_key y false k n = refl
 
-    found_if : (x y : Message) (t : Bool) → Mem x rest → (m.sent.to == x.sent.to) ≡ t → (if t then with_message m (mail_at mails x.sent.to) else mail_at mails x.sent.to) x.sent.key ≡ Some y → y ≡ x
-    found_if x y true i e s = found_key x y (same_key m.sent.key x.sent.key) i (eqb-true _ _ e) refl s
-    found_if x y false i e s = d.can.held x y (mem_left x rest (m ∷ []) i) s
+    found_if : (y : Message) (t : Bool) → (m.sent.to == y.sent.to) ≡ t → (m.sent.to ≡ y.sent.to → m.sent.key ≡ y.sent.key → ⊥) → (if t then with_message m (mail_at mails y.sent.to) else mail_at mails y.sent.to) y.sent.key ≡ mail_at mails y.sent.to y.sent.key
+    found_if y true e n = found_key y (same_key m.sent.key y.sent.key) refl (λ k. n (eqb-true _ _ e) (same_key_is _ _ k))
+    found_if y false e n = refl
 
-    pub delivers_more : Delivering old all after (slice_set heard m.sent.to true) rest
+    found_other : (y : Message) → (m.sent.to ≡ y.sent.to → m.sent.key ≡ y.sent.key → ⊥) → mail_at after y.sent.to y.sent.key ≡ mail_at mails y.sent.to y.sent.key
+    found_other y n = ap (λ (l : Lookup). l y.sent.key) (at y.sent.to) ∙ found_if y (m.sent.to == y.sent.to) refl n
+
+    -- this message is found at its key
+    key_here : (t : Bool) → same_key m.sent.key m.sent.key ≡ t → t ≡ true → (if t then Some m else mail_at mails m.sent.to m.sent.key) ≡ Some m
+    key_here true k e = refl
+    key_here false k e = absurd (cc)
+
+    found_here : mail_at after m.sent.to m.sent.key ≡ Some m
+    found_here = ap (λ (l : Lookup). l m.sent.key) at_it ∙ key_here (same_key m.sent.key m.sent.key) refl (same_key_refl m.sent.key)
+
+    -- where all can be delivered, the rest can
+    rest_left : CanDeliver limit mails (rest ++ m ∷ []) → CanDeliver limit after rest
+    rest_left h = record { apart = parts.0; each = λ y i. let k = h.each y (mem_left y rest (m ∷ []) i) in record { free = found_other y (other y i) ∙ k.free; low = k.low } }
+      where
+        parts : Apart one_key rest × (mail_to rest m.sent.to m.sent.key ≡ None)
+        parts = apart_from rest m h.apart
+
+        other : (y : Message) → Mem y rest → m.sent.to ≡ y.sent.to → m.sent.key ≡ y.sent.key → ⊥
+        other y i t k = not_none (mail_to rest m.sent.to m.sent.key) y parts.1 (ap₂ (mail_to rest) t k ∙ hits rest parts.0 y i)
+
+    -- where the rest can be delivered, all could
+    all_given : CanDeliver limit after rest → CanDeliver limit mails (rest ++ m ∷ [])
+    all_given h = record { apart = apart rest m h.apart (none_if (mail_to rest m.sent.to m.sent.key) no_other); each = λ y i. by_side y (mem_cases y rest (m ∷ []) i) }
+      where
+        not_here : (y : Message) → Mem y rest → m.sent.to ≡ y.sent.to → m.sent.key ≡ y.sent.key → ⊥
+        not_here y i t k = not_none (mail_at after y.sent.to y.sent.key) m (h.each y i).free (ap₂ (mail_at after) (sym t) (sym k) ∙ found_here)
+
+        no_other : (y : Message) → mail_to rest m.sent.to m.sent.key ≡ Some y → ⊥
+        no_other y e =
+            let f = found rest m.sent.to m.sent.key y e in
+            let q = is_for_is m.sent.to m.sent.key y f.1 in
+            not_here y f.0 (sym q.0) (sym q.1)
+
+        by_side : (y : Message) → Mem y rest ⊎ Mem y (m ∷ []) → CanPut limit y (mail_at mails y.sent.to)
+        by_side y (inl i) = let k = h.each y i in record { free = sym (found_other y (not_here y i)) ∙ k.free; low = k.low }
+        by_side y (inr (inl e)) = subst (λ (y : Message). CanPut limit y (mail_at mails y.sent.to)) (sym e) can
+        by_side y (inr (inr i)) = absurd i
+
+    pub delivers_more : Delivering limit old all after (slice_set heard m.sent.to true) rest
     delivers_more = record {
       count = length-set mails m.sent.to held ∙ d.count;
       heard_count = length-set heard m.sent.to true ∙ d.heard_count;
       mails = λ c l. ap (λ mail. mail_after c mail rest) (at c) ∙ (sym (after_push c (mail_at mails c) rest m) ∙ d.mails c l);
       kept = λ c s. kept_if c (m.sent.to == c) refl s;
-      can = record {
-        target = λ x i. let l = d.can.target x (mem_left x rest (m ∷ []) i) in let n = length-set mails m.sent.to held in omega (arith, l, n);
-        among = λ x y i j t k. d.can.among x y (mem_left x rest (m ∷ []) i) (mem_left y rest (m ∷ []) j) t k;
-        held = λ x y i s. found_if x y (m.sent.to == x.sent.to) i refl (sym (ap (λ (l : Lookup). l x.sent.key) (at x.sent.to)) ∙ s);
-      };
+      target = λ x i. d.target x (mem_left x rest (m ∷ []) i);
+      left = λ h. rest_left (d.left h);
+      given = λ h. d.given (all_given h);
     }
 
-same_if : (m : Message) (l : Lookup) (k : Key) (t : Bool) → same_key m.sent.key k ≡ t → l m.sent.key ≡ Some m → l k ≡ (if t then Some m else l k)
-same_if m l k true e s = ap l (sym (same_key_is _ _ e)) ∙ s
-same_if m l k false e s = refl
+none_to_put : (limit : ℕ) (mails : List (List Message)) → CanDeliver limit mails []
+none_to_put limit mails = record { apart = tt; each = λ m i. absurd i }
 
-some_of : (m : Message) (l : Lookup) (o : Option Message) → l m.sent.key ≡ o → IsSome o → ((x : Message) → l m.sent.key ≡ Some x → x ≡ m) → l m.sent.key ≡ Some m
-some_of m l None e h f = absurd (cc)
-some_of m l (Some x) e h f = e ∙ ap (λ x. Some x) (f x e)
-
--- where a message of its key is held, it is this one, and it may stay
-pub stays : (m : Message) (l : Lookup) → IsSome (l m.sent.key) → ((x : Message) → l m.sent.key ≡ Some x → x ≡ m) → l ≡ with_message m l
-stays m l h f = λ i k. same_if m l k (same_key m.sent.key k) refl (some_of m l _ refl h f) i
-
-pub delivered : (old : List (List Message)) (all : List Message) (mails : List (List Message)) (heard : List Bool) → Delivering old all mails heard [] → AreDelivered old all mails × AreKept old heard mails
-delivered old all mails heard d = (record { count = d.count; mails = d.mails }, record { count = d.heard_count; kept = d.kept })
+pub delivered : (limit : ℕ) (old : List (List Message)) (all : List Message) (mails : List (List Message)) (heard : List Bool) → Delivering limit old all mails heard [] → AreDelivered old all mails × AreKept old heard mails × CanDeliver limit old all
+delivered limit old all mails heard d = (record { count = d.count; mails = d.mails }, record { count = d.heard_count; kept = d.kept }, d.given (none_to_put limit mails))
 
 -- ---- a message of a mail is found
 

@@ -1,5 +1,5 @@
 -- No block ends late: each ends within 2^50 ticks for each block that was started.
-use Rattle.std.proofs.Common.{◌≡◌, ◌≤◌, ◌<◌, ◌⊎◌, inl, inr, ℕ, ◌+◌, ◌-◌, ◌*◌, ◌^◌, ◌==◌, max, Bool, true, false, if◌then◌else◌, List, [], ◌∷◌, Option, Some, None, length, slice_get, refl, sym, ap, subst, ◌∙◌, arith}
+use Rattle.std.proofs.Common.{◌≡◌, ◌≤◌, inl, inr, ℕ, ◌+◌, ◌-◌, ◌*◌, ◌^◌, ◌==◌, Bool, true, false, if◌then◌else◌, List, [], ◌∷◌, Option, Some, None, length, slice_get, refl, sym, subst, arith}
 use Rattle.bs_tree.specs.declared.tree.Program.{Program}
 use Rattle.bs_log.specs.declared.history.Origin.{Origin}
 use Rattle.bs_log.specs.declared.history.Message.{Message}
@@ -10,12 +10,11 @@ use Rattle.bs_machine.proofs.Bounds.{has_bounds}
 use Rattle.bs_semantics.specs.Run.{greatest}
 use Rattle.bs_semantics.specs.Rounds.{Mem, mail_to}
 use Rattle.bs_semantics.specs.Proper.{IsProper}
-use Rattle.bs_semantics.specs.Serial.{Started, messages, find, end_of, end_found, arrival_of, arrival_found, ready, free, would_start}
-use Rattle.bs_semantics.specs.Reached.{IsReached, begins, goes_on}
+use Rattle.bs_semantics.specs.Serial.{Started, messages, find, end_of, end_found, arrival_of, arrival_found, free, would_start}
 use Rattle.bs_semantics.proofs.Find.{found_at}
 use Rattle.bs_semantics.proofs.Proper.{run_proper}
-use Rattle.bs_semantics.proofs.Reached.{reached_blocks}
 use Rattle.bs_times.specs.Machine.{machine_of}
+use Rattle.bs_model.specs.Started.{AreStarted, none_yet, one_more}
 use Rattle.bs_model.proofs.Places.{mem_get}
 
 greatest_low : {A : Type 0} (f : A → ℕ) (k : ℕ) (xs : List A) → ((x : A) → Mem x xs → f x ≤ k) → greatest f xs ≤ k
@@ -72,10 +71,10 @@ module _ (p : Program) (limit : ℕ) (m : Fitted) where
   low_more : (last k : ℕ) (b : Started) → last ≤ k → IsLow last b → IsLow k b
   low_more last k b l h = record { proper = h.proper; ends = let e = h.ends in omega (arith, e, l) }
 
-  -- the starts and ends of the states that are reached
-  pub reached_low : (bs : List Started) → IsReached p limit (machine_of m) bs → (b : Started) → Mem b bs → IsLow (length bs * 2 ^ 50) b
-  reached_low _ begins b i = absurd i
-  reached_low _ (goes_on bs d r clean next) b i = by_place i (reached_low bs r)
+  -- the starts and ends of the blocks that were started
+  pub started_low : (bs : List Started) → AreStarted p limit (machine_of m) bs → (b : Started) → Mem b bs → IsLow (length bs * 2 ^ 50) b
+  started_low _ none_yet b i = absurd i
+  started_low _ (one_more bs d s next to) b i = by_place i (started_low bs s)
     where
       proper : IsProper p d.block
       proper = run_proper p limit d.chare (mail_to (messages bs) d.chare) d.block next.candidate.enabled.block

@@ -1,5 +1,5 @@
 -- The blocks that can start, and their ready ticks, as the book shows them.
-use Rattle.std.proofs.Common.{◌≡◌, ◌⊎◌, inl, inr, ℕ, ◌+◌, ◌-◌, max, List, [], ◌∷◌, Option, Some, None, map, option_map, slice_get, refl, sym, ap, ap₂, subst, ◌∙◌}
+use Rattle.std.proofs.Common.{◌≡◌, inl, inr, ℕ, ◌-◌, max, List, [], ◌∷◌, Option, Some, None, option_map, slice_get, refl, sym, ap, ap₂, subst, ◌∙◌}
 use Rattle.std.proofs.lemmas.Option.{slice_get-map}
 use Rattle.bs_tree.specs.declared.tree.Path.{Path}
 use Rattle.bs_log.specs.declared.history.Origin.{Origin}
@@ -9,7 +9,6 @@ use Rattle.bs_machine.specs.declared.fitted.Fitted.{Fitted}
 use Rattle.bs_semantics.specs.Run.{greatest}
 use Rattle.bs_semantics.specs.Rounds.{Mem}
 use Rattle.bs_semantics.specs.Serial.{Started, find, end_found, arrival_found, arrival_of, ready}
-use Rattle.bs_model.specs.declared.book.Begun.{Begun}
 use Rattle.bs_model.specs.declared.book.Book.{Book}
 use Rattle.bs_model.specs.Book.{found}
 use Rattle.bs_times.specs.Machine.{machine_of}

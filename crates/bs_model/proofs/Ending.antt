@@ -1,5 +1,5 @@
 -- Where no block can start, the outcome is that of the serial machine model, and it can be reported.
-use Rattle.std.proofs.Common.{◌≡◌, ◌≤◌, ◌<◌, ◌⊎◌, inl, inr, ℕ, suc, ◌+◌, ◌*◌, ◌^◌, List, [], ◌∷◌, ◌++◌, Some, None, length, slice_get, get_or, map, refl, sym, ap, ap₂, subst, ◌∙◌, arith, Ordering, Less, Equal, Greater, Result, Ok, Err, IfOk}
+use Rattle.std.proofs.Common.{◌≡◌, ◌≤◌, ◌<◌, ◌⊎◌, inl, inr, ℕ, suc, ◌+◌, List, [], ◌∷◌, ◌++◌, None, length, get_or, map, refl, sym, ap, subst, ◌∙◌, arith, Ordering, Less, Equal, Greater, Result, Ok, Err, IfOk, IfErr, OnOk}
 use Rattle.std.proofs.lemmas.List.{length-map}
 use Rattle.bs_tree.specs.declared.tree.Program.{Program}
 use Rattle.bs_log.specs.declared.history.History.{History}
@@ -18,14 +18,18 @@ use Rattle.bs_semantics.proofs.Reached.{reached_clean}
 use Rattle.bs_semantics.proofs.Sorted.{put_all_member}
 use Rattle.bs_model.specs.declared.book.Begun.{Begun}
 use Rattle.bs_model.specs.declared.state.State.{State}
+use Rattle.bs_model.specs.declared.stop.Stop.{Stop}
 use Rattle.bs_model.specs.Book.{keyed}
 use Rattle.bs_times.specs.Machine.{machine_of}
 use Rattle.bs_model.specs.Next.{IsLeast}
 use Rattle.bs_model.specs.State.{Follows, entry_of}
+use Rattle.bs_model.specs.Stop.{Denies}
 use Rattle.bs_model.proofs.Choosing.{best_for}
 use Rattle.bs_model.proofs.Counts.{few}
-use Rattle.bs_model.proofs.Early.{reached_low}
+use Rattle.bs_model.proofs.Denying.{denies_also}
+use Rattle.bs_model.proofs.Early.{started_low}
 use Rattle.bs_model.proofs.Following.{each_of}
+use Rattle.bs_model.proofs.Running.{reached}
 
 put_length : {A : Type 0} (cmp : A → A → Ordering) (x : A) (ys : List A) → length (put cmp x ys) ≤ suc (length ys)
 put_length cmp x [] = omega arith
@@ -58,9 +62,12 @@ gives_first : (p : Program) (limit : ℕ) (m : Machine) (r : Simulated) (bs : Li
 gives_first p limit m r _ begins g = g
 gives_first p limit m r _ (goes_on bs b h clean next) g = gives_first p limit m r bs h (starts bs b r clean next g)
 
+pub none_enabled : (p : Program) (limit : ℕ) (m : Fitted) (bs : List Started) (s : State) → Follows p limit m bs s → IsLeast m s.ends.items s.bests.items None → NoneEnabled p limit bs
+none_enabled p limit m bs s f none c x e = let b = best_for p limit m bs s f c x e in none c b.best b.is
+
 module _ (p : Program) (limit : ℕ) (m : Fitted) (n : ℕ) (clean : CleanAt p limit n) (small : limit ≤ 262144) (bs : List Started) (s : State) (f : Follows p limit m bs s) where
-  none_enabled : IsLeast m s.ends.items s.bests.items None → NoneEnabled p limit bs
-  none_enabled none c x e = let b = best_for p limit m bs s f c x e in none c b.best b.is
+  its_reached : IsReached p limit (machine_of m) bs
+  its_reached = reached p limit (machine_of m) n clean bs f.started
 
   module _ (o : Outcome) (rows : o.rows ≡ map (λ (e : List ℕ × Begun). e.1.row) (keyed s.book)) (traps : o.traps ≡ log.traps_from 0 s.histories.items) (waits : o.waits ≡ log.waits_from 0 s.histories.items) where
     its_rows : o.rows ≡ rows_of (machine_of m) bs
@@ -78,13 +85,13 @@ module _ (p : Program) (limit : ℕ) (m : Fitted) (n : ℕ) (clean : CleanAt p l
     pub is_serial : IsLeast m s.ends.items s.bests.items None → Gives p limit (machine_of m) [] (timed o)
     is_serial none =
         subst (λ o. Gives p limit (machine_of m) [] (timed o)) its_outcome
-        (gives_first p limit (machine_of m) _ bs f.reached (ends bs (reached_clean p limit (machine_of m) n clean bs f.reached) (none_enabled none)))
+        (gives_first p limit (machine_of m) _ bs its_reached (ends bs (reached_clean p limit (machine_of m) n clean bs its_reached) (none_enabled p limit m bs s f none)))
 
     its_time : (b : Started) → Mem b bs ⊎ Mem b [] → IsTimed (row_of (machine_of m) b)
     unfolding machine_of
     its_time b (inl i) =
-        let low = reached_low p limit m bs f.reached b i in
-        let count = few p limit (machine_of m) n clean bs f.reached in
+        let low = started_low p limit m bs f.started b i in
+        let count = few p limit (machine_of m) n clean bs its_reached in
         let ends = low.ends in
         let duration = (has_bounds m).duration b.block.cost low.proper.least low.proper.most in
         record { takes_time = omega (arith, duration.0); is_short = omega (arith, duration.1); is_early = omega (arith, ends, count, small) }
@@ -92,7 +99,7 @@ module _ (p : Program) (limit : ℕ) (m : Fitted) (n : ℕ) (clean : CleanAt p l
 
     pub is_reportable : IsReportable o
     is_reportable =
-        let count = few p limit (machine_of m) n clean bs f.reached in
+        let count = few p limit (machine_of m) n clean bs its_reached in
         let all = all_length (started_cmp (machine_of m)) bs in
         let rows_count = length-map (put_all (started_cmp (machine_of m)) bs []) (row_of (machine_of m)) in
         let same = ap (λ (rows : List OutRow). length rows) its_rows in
@@ -102,7 +109,15 @@ module _ (p : Program) (limit : ℕ) (m : Fitted) (n : ℕ) (clean : CleanAt p l
               (each_of IsTimed (row_of (machine_of m)) (put_all (started_cmp (machine_of m)) bs []) (λ b i. its_time b (put_all_member (started_cmp (machine_of m)) b bs [] i)));
         }
 
--- three facts on what was given, and what follows from them
-pub if_given : {A E : Type 0} (P Q R S : A → Type 0) → ((a : A) → P a → Q a → R a → S a) → (r : Result A E) → IfOk r P → IfOk r Q → IfOk r R → IfOk r S
-if_given P Q R S f (Ok a) p q r = f a p q r
-if_given P Q R S f (Err e) p q r = tt
+-- facts on what was given, and what follows from them
+pub if_given : {A E : Type 0} (P Q R S : A → Type 0) (T : Type 0) → ((a : A) → P a → Q a → R a → T → S a) → (r : Result A E) → IfOk r P → IfOk r Q → IfOk r R → OnOk r T → IfOk r S
+if_given P Q R S T f (Ok a) p q r t = f a p q r t
+if_given P Q R S T f (Err e) p q r t = tt
+
+pub on_given : {A E : Type 0} (T U : Type 0) → (T → U) → (r : Result A E) → OnOk r T → OnOk r U
+on_given T U f (Ok a) t = f t
+on_given T U f (Err e) t = tt
+
+pub if_denied : {A : Type 0} (P Q : Type 0) → (Q → P) → (r : Result A Stop) → IfErr r (Denies P) → IfErr r (Denies Q)
+if_denied P Q f (Ok a) d = tt
+if_denied P Q f (Err s) d = denies_also P Q f s d

@@ -1,5 +1,5 @@
 -- The state after the next block was started.
-use Rattle.std.proofs.Common.{◌≡◌, ◌≤◌, ◌<◌, ◌⊎◌, inl, inr, ℕ, zero, suc, ◌+◌, ◌*◌, ◌^◌, ◌==◌, Bool, true, false, if◌then◌else◌, List, [], ◌∷◌, Option, Some, None, length, slice_get, slice_set, get_or, map, option_map, refl, sym, ap, ap₂, subst, ◌∙◌, arith, eqb-true}
+use Rattle.std.proofs.Common.{◌≡◌, ◌≤◌, ◌<◌, ◌⊎◌, inl, inr, ℕ, zero, suc, ◌+◌, ◌*◌, ◌^◌, ◌==◌, Bool, true, false, if◌then◌else◌, List, [], ◌∷◌, Option, Some, None, length, slice_get, slice_set, get_or, map, option_map, refl, sym, ap, subst, ◌∙◌, arith, eqb-true}
 use Rattle.std.proofs.lemmas.Bool.{cases_eq, eqb-false}
 use Rattle.std.proofs.lemmas.List.{length-set, get_or-set_same, get_or-set_other}
 use Rattle.std.proofs.lemmas.Option.{slice_get_within, slice_get-get_or}
@@ -12,30 +12,30 @@ use Rattle.bs_machine.specs.declared.fitted.Fitted.{Fitted}
 use Rattle.bs_machine.specs.Fitted.{home_of, processors_of, duration_of}
 use Rattle.bs_machine.proofs.Bounds.{has_bounds}
 use Rattle.bs_semantics.specs.Run.{history, put_all}
-use Rattle.bs_semantics.specs.Rounds.{Mem, CleanAt, mail_to}
+use Rattle.bs_semantics.specs.Rounds.{Mem, mail_to}
 use Rattle.bs_semantics.specs.Proper.{IsProper}
-use Rattle.bs_semantics.specs.Serial.{Started, messages, histories_at, find, free, started_cmp}
-use Rattle.bs_semantics.specs.Reached.{IsReached, goes_on}
+use Rattle.bs_semantics.specs.Serial.{Started, IsNext, messages, histories_at, find, free, started_cmp}
 use Rattle.bs_semantics.proofs.Find.{found_at}
-use Rattle.bs_semantics.proofs.Reached.{apart, reached_blocks, reached_clean}
+use Rattle.bs_semantics.proofs.Proper.{run_proper}
 use Rattle.bs_model.specs.declared.book.Begun.{Begun}
 use Rattle.bs_model.specs.declared.book.Book.{Book}
-use Rattle.bs_model.specs.declared.candidates.Best.{Best}
 use Rattle.bs_model.specs.declared.candidates.Next.{Next}
 use Rattle.bs_model.specs.declared.state.State.{State}
 use Rattle.bs_model.specs.Book.{at_key, found, keyed, put_key}
 use Rattle.bs_times.specs.Machine.{machine_of}
-use Rattle.bs_model.specs.Mails.{mail_at, AreDelivered, AreHistories, AreKept, CanDeliver}
+use Rattle.bs_model.specs.Mails.{mail_at, history_at, AreDelivered, AreFor, AreHistories, AreKept, AreShallow, AreShort, CanDeliver}
 use Rattle.bs_model.specs.Next.{AreBest, IsLeastAt, best_among, best_at}
 use Rattle.bs_model.specs.Ready.{AreBooked, IsBooked, IsTimeable}
+use Rattle.bs_model.specs.Started.{AreStarted}
 use Rattle.bs_model.specs.State.{Follows, begun_of, entry_of}
-use Rattle.bs_model.proofs.Choosing.{tied, history_here, its_best, started, is_next, chares_here, chare_low, home_is}
-use Rattle.bs_model.proofs.Counts.{few}
-use Rattle.bs_model.proofs.Early.{IsLow, reached_low}
+use Rattle.bs_model.specs.Stop.{HasCleanRound}
+use Rattle.bs_model.proofs.Choosing.{tied, history_here, its_best, started, is_next, chare_low, home_is}
+use Rattle.bs_model.proofs.Early.{start_low, started_low}
 use Rattle.bs_model.proofs.Entries.{key_of, entries_more, finds_same}
 use Rattle.bs_model.proofs.Places.{get_set_same, get_set_other, numbered, below_of}
+use Rattle.bs_model.proofs.Running.{are_blocks, differ}
 use Rattle.bs_model.proofs.Staying.{best_stays}
-use Rattle.bs_model.proofs.Stepping.{can_deliver, mails_now}
+use Rattle.bs_model.proofs.Stepping.{targets, more_started, mails_now, shallow, histories_kept, can_deliver, short}
 
 pub each_of : {A B : Type 0} (P : B → Type 0) (f : A → B) (xs : List A) → ((x : A) → Mem x xs → P (f x)) → (k : ℕ) (d : B) → k < length (map f xs) → P (get_or (map f xs) k d)
 each_of P f [] h k d l = absurd (omega (arith, l))
@@ -52,33 +52,32 @@ timeable p x h = each_of IsTimeable (λ (s : Message). s.sent) x.sends (λ s i.
 the_item : {A : Type 0} (x y : A) → Some x ≡ Some y → x ≡ y
 the_item x y e = cc
 
-module _ (p : Program) (limit : ℕ) (m : Fitted) (n : ℕ) (clean : CleanAt p limit n) (small : limit ≤ 262144) (same : m.chares ≡ p.chares) where
+module _ (p : Program) (limit : ℕ) (m : Fitted) (small : limit ≤ 262144) (same : m.chares ≡ p.chares) where
   -- the blocks that were started lie early on processors
-  is_booked : (bs : List Started) → IsReached p limit (machine_of m) bs → (b : Started) → Mem b bs → IsBooked m (begun_of m b)
-  is_booked bs r b i =
-      let low = reached_low p limit m bs r b i in
-      let count = few p limit (machine_of m) n clean bs r in
+  is_booked : (bs : List Started) → AreStarted p limit (machine_of m) bs → length bs ≤ 262145 → (b : Started) → Mem b bs → IsBooked m (begun_of m b)
+  is_booked bs r few b i =
+      let low = started_low p limit m bs r b i in
       let ends = low.ends in
-      let chare = below_of 0 p.chares b.chare (reached_blocks p limit (machine_of m) bs r b i).0 in
+      let chare = below_of 0 p.chares b.chare (are_blocks p limit (machine_of m) bs r b i).0 in
       record {
         processor = (has_bounds m).home b.chare (omega (arith, chare, same));
-        start = omega (arith, ends, count, small);
+        start = omega (arith, ends, few);
         sends = timeable p b.block low.proper;
       }
 
-  by_found : (bs : List Started) → IsReached p limit (machine_of m) bs → (c : ℕ) (path : List ℕ) (g : Begun) (o : Option Started) → find bs c path ≡ o → option_map (begun_of m) o ≡ Some g → IsBooked m g
-  by_found bs r c path g None e f = absurd (cc)
-  by_found bs r c path g (Some b) e f = let is : begun_of m b ≡ g = cc in subst (IsBooked m) is (is_booked bs r b (found_at bs c path b e).is_in)
+  by_found : (bs : List Started) → AreStarted p limit (machine_of m) bs → length bs ≤ 262145 → (c : ℕ) (path : List ℕ) (g : Begun) (o : Option Started) → find bs c path ≡ o → option_map (begun_of m) o ≡ Some g → IsBooked m g
+  by_found bs r few c path g None e f = absurd (cc)
+  by_found bs r few c path g (Some b) e f = let is : begun_of m b ≡ g = cc in subst (IsBooked m) is (is_booked bs r few b (found_at bs c path b e).is_in)
 
-  pub are_booked : (bs : List Started) → IsReached p limit (machine_of m) bs → (book : Book) → ((c : ℕ) (path : List ℕ) → found book c path ≡ option_map (begun_of m) (find bs c path)) → AreBooked m book
-  are_booked bs r book tie c path g e = by_found bs r c path g (find bs c path) refl (sym (tie c path) ∙ e)
+  pub are_booked : (bs : List Started) → AreStarted p limit (machine_of m) bs → length bs ≤ 262145 → (book : Book) → ((c : ℕ) (path : List ℕ) → found book c path ≡ option_map (begun_of m) (find bs c path)) → AreBooked m book
+  are_booked bs r few book tie c path g e = by_found bs r few c path g (find bs c path) refl (sym (tie c path) ∙ e)
 
-  module _ (bs : List Started) (s : State) (f : Follows p limit m bs s) (nx : Next) (least : IsLeastAt m s.ends.items s.bests.items nx) where
+  module _ (bs : List Started) (s : State) (f : Follows p limit m bs s) (few : length bs ≤ limit) (nx : Next) (least : IsLeastAt m s.ends.items s.bests.items nx) where
     abbrev pub now : Started
     now = started p limit m bs s f nx least same
 
-    pub reached_now : IsReached p limit (machine_of m) (now ∷ bs)
-    reached_now = goes_on bs now f.reached (reached_clean p limit (machine_of m) n clean bs f.reached) (is_next p limit m bs s f nx least same)
+    pub next_now : IsNext (machine_of m) p limit bs now
+    next_now = is_next p limit m bs s f nx least same
 
     -- the block that the code takes
     pub block_is : (h : History) (x : Block) → h ≡ get_or s.histories.items nx.chare h → slice_get h.blocks nx.best.at ≡ Some x → x ≡ now.block
@@ -98,10 +97,13 @@ module _ (p : Program) (limit : ℕ) (m : Fitted) (n : ℕ) (clean : CleanAt p l
         subst (λ (h : History). nx.best.at < length h.blocks) (sym same_history) (slice_get_within _ nx.best.at now.block (its_best p limit m bs s f nx least same).is)
 
     pub cost_now : (1 ≤ now.block.cost) × (now.block.cost ≤ 2 ^ 32)
-    cost_now = let h = (reached_low p limit m (now ∷ bs) reached_now now (inl refl)).proper in (h.least, h.most)
+    cost_now = let h = run_proper p limit now.chare (mail_to (messages bs) now.chare) now.block next_now.candidate.enabled.block in (h.least, h.most)
 
     pub start_early : nx.start < 2 ^ 100
-    start_early = (is_booked (now ∷ bs) reached_now now (inl refl)).start
+    start_early =
+        let low = start_low p limit m (length bs * 2 ^ 50) bs now.chare now.block (started_low p limit m bs f.started) in
+        let start = next_now.start in
+        omega (arith, low, start, few, small)
 
     pub processor_low : nx.processor < length s.ends.items
     processor_low =
@@ -114,79 +116,96 @@ module _ (p : Program) (limit : ℕ) (m : Fitted) (n : ℕ) (clean : CleanAt p l
     pub some_chare : 1 ≤ p.chares
     some_chare = let l = chare_low p limit m bs s f nx least same in omega (arith, l)
 
-    pub delivers_now : CanDeliver s.mails.items now.block.sends
-    delivers_now = can_deliver p limit m n clean bs now reached_now s.mails.items f.chares some_chare f.mails
+    pub targets_now : AreFor (length s.mails.items) now.block.sends
+    targets_now = targets p limit m bs f.started now next_now s.mails.items f.chares some_chare f.mails
 
-    module _ (book : Book) (book_is : keyed book ≡ put_key (key_of now) (begun_of m now) (keyed s.book)) where
-      pub entries_now : keyed book ≡ map (entry_of m) (put_all (started_cmp (machine_of m)) (now ∷ bs) [])
-      entries_now = book_is ∙ (ap (put_key (key_of now) (begun_of m now)) f.book ∙ sym (entries_more m now bs (apart p limit (machine_of m) (now ∷ bs) reached_now).0))
+    -- where the verdict is Clean, its messages can be delivered, and then no history is too long
+    pub delivers_now : HasCleanRound p limit → CanDeliver limit s.mails.items now.block.sends
+    delivers_now h = can_deliver p limit m bs f.started now next_now s.mails.items f.chares some_chare f.mails h.0 h.1
 
-      tied_now : (c : ℕ) (path : List ℕ) → found book c path ≡ option_map (begun_of m) (find (now ∷ bs) c path)
-      tied_now c path = ap (λ es. at_key es (c ∷ path)) entries_now ∙ finds_same m (now ∷ bs) (apart p limit (machine_of m) (now ∷ bs) reached_now) c path
+    pub short_now : (mails : List (List Message)) → AreDelivered s.mails.items now.block.sends mails → HasCleanRound p limit → AreShort p limit mails
+    short_now mails d h = short p limit m bs f.started now next_now s.mails.items f.chares some_chare f.mails h.0 h.1 mails d
 
-      pub booked_now : AreBooked m book
-      booked_now = are_booked (now ∷ bs) reached_now book tied_now
+    pub histories_now : (mails : List (List Message)) (heard : List Bool) → AreDelivered s.mails.items now.block.sends mails → AreKept s.mails.items heard mails → (c : ℕ) → slice_get heard c ≡ Some false → slice_get s.histories.items c ≡ history_at p limit mails c
+    histories_now mails heard d kept = histories_kept p limit m bs f.started now next_now s.mails.items f.chares some_chare f.mails mails d s.histories.items heard f.histories kept
 
-      module _ (mails : List (List Message)) (heard : List Bool) (d : AreDelivered s.mails.items now.block.sends mails) (kept : AreKept s.mails.items heard mails) (hs : List History) (are : AreHistories p limit mails hs) where
-        pub mails_are : (c : ℕ) → c < p.chares → mail_at mails c ≡ mail_to (messages (now ∷ bs)) c
-        mails_are = mails_now p limit m n clean bs now reached_now s.mails.items f.chares some_chare f.mails mails d
+    module _ (can : CanDeliver limit s.mails.items now.block.sends) where
+      pub shallow_now : (mails : List (List Message)) → AreDelivered s.mails.items now.block.sends mails → AreShallow mails
+      shallow_now mails d = shallow p limit m bs f.started now next_now s.mails.items f.chares some_chare f.mails mails d small can
 
-        mails_count : length mails ≡ p.chares
-        mails_count = d.count ∙ f.chares
+      pub started_now : AreStarted p limit (machine_of m) (now ∷ bs)
+      started_now = more_started p limit m bs f.started now next_now s.mails.items f.chares some_chare f.mails can
 
-        pub histories_are : hs ≡ histories_at p limit (now ∷ bs)
-        histories_are = numbered (λ c. history p limit c (mail_to (messages (now ∷ bs)) c)) p.chares 0 hs (are.count ∙ mails_count) (λ c l.
-            are.each c (let k = mails_count in omega (arith, l, k)) ∙ (ap (λ mail. Some (history p limit c mail)) (mails_are c l) ∙ ap (λ d. Some (history p limit d (mail_to (messages (now ∷ bs)) d))) (omega arith)))
+      module _ (book : Book) (book_is : keyed book ≡ put_key (key_of now) (begun_of m now) (keyed s.book)) where
+        pub entries_now : keyed book ≡ map (entry_of m) (put_all (started_cmp (machine_of m)) (now ∷ bs) [])
+        entries_now = book_is ∙ (ap (put_key (key_of now) (begun_of m now)) f.book ∙ sym (entries_more m now bs (differ p limit (machine_of m) (now ∷ bs) started_now).0))
 
-        -- a chare that wasn't heard of, and isn't that of the block
-        other_best : (c : ℕ) → slice_get heard c ≡ Some false → (now.chare ≡ c → ⊥) → best_at m book hs s.bests.items c
-        other_best c e other =
-            let within = slice_get_within heard c false e in
-            let count = kept.count in
-            let chares = f.chares in
-            let lt : c < p.chares = omega (arith, within, count, chares) in
-            let k = mails_count in
-            let fresh = (is_next p limit m bs s f nx least same).candidate.enabled.fresh in
-            let mail = kept.kept c e ∙ f.mails c lt in
-            let here = are.each c (omega (arith, lt, k)) ∙ ap (λ mail. Some (history p limit c mail)) mail in
-            let there = history_here p limit m bs s f c lt in
-            let old = subst (λ h. best_among m s.book c h (slice_get s.bests.items c)) there (f.bests.each c (slice_get_within s.histories.items c _ there)) in
-            subst (λ h. best_among m book c h (slice_get s.bests.items c)) (sym here)
-            (best_stays m now bs s.book book (tied p limit m bs s f) tied_now p limit f.reached fresh c other (slice_get s.bests.items c) old)
+        tied_now : (c : ℕ) (path : List ℕ) → found book c path ≡ option_map (begun_of m) (find (now ∷ bs) c path)
+        tied_now c path = ap (λ es. at_key es (c ∷ path)) entries_now ∙ finds_same m (now ∷ bs) (differ p limit (machine_of m) (now ∷ bs) started_now) c path
 
-        pub bests_kept : (c : ℕ) → slice_get (slice_set heard now.chare true) c ≡ Some false → best_at m book hs s.bests.items c
-        bests_kept c e = by_case (cases_eq now.chare c)
-          where
-            by_case : (now.chare ≡ c) ⊎ (now.chare ≡ c → ⊥) → best_at m book hs s.bests.items c
-            by_case (inl same_chare) =
-                let lt = chare_low p limit m bs s f nx least same in
-                let count = kept.count in
-                let chares = f.chares in
-                let there = get_set_same heard now.chare true (omega (arith, lt, count, chares)) in
-                let here : slice_get (slice_set heard now.chare true) now.chare ≡ Some false = subst (λ c. slice_get (slice_set heard now.chare true) c ≡ Some false) (sym same_chare) e in
-                absurd (cc)
-            by_case (inr other) = other_best c (sym (get_set_other heard now.chare c true other) ∙ e) other
+        pub booked_now : AreBooked m book
+        booked_now = are_booked (now ∷ bs) started_now (omega (arith, few, small)) book tied_now
 
-        ends_if : (q : ℕ) (t : Bool) → q < processors_of m → (home_of m now.chare == q) ≡ t → get_or (slice_set s.ends.items (home_of m now.chare) (now.start + duration_of m now.block.cost)) q 0 ≡ (if t then now.start + duration_of m now.block.cost else free (machine_of m) bs q)
-        ends_if q true l e =
-            let same_home = eqb-true _ _ e in
-            let k = f.processors in
-            subst (λ q. get_or (slice_set s.ends.items (home_of m now.chare) (now.start + duration_of m now.block.cost)) q 0 ≡ now.start + duration_of m now.block.cost) same_home
-            (get_or-set_same s.ends.items (home_of m now.chare) (now.start + duration_of m now.block.cost) 0 (omega (arith, l, same_home, k)))
-        ends_if q false l e = get_or-set_other s.ends.items (home_of m now.chare) q (now.start + duration_of m now.block.cost) 0 (λ h. eqb-false _ _ e (sym h)) ∙ f.ends q l
+        module _ (mails : List (List Message)) (heard : List Bool) (d : AreDelivered s.mails.items now.block.sends mails) (kept : AreKept s.mails.items heard mails) (hs : List History) (are : AreHistories p limit mails hs) where
+          pub mails_are : (c : ℕ) → c < p.chares → mail_at mails c ≡ mail_to (messages (now ∷ bs)) c
+          mails_are = mails_now p limit m bs f.started now next_now s.mails.items f.chares some_chare f.mails mails d
 
-        ends_now : (q : ℕ) → q < processors_of m → get_or (slice_set s.ends.items (home_of m now.chare) (now.start + duration_of m now.block.cost)) q 0 ≡ free (machine_of m) (now ∷ bs) q
-        unfolding machine_of
-        ends_now q l = ends_if q (home_of m now.chare == q) l refl
+          mails_count : length mails ≡ p.chares
+          mails_count = d.count ∙ f.chares
 
-        pub follows_now : (t : State) → t.book ≡ book → t.ends.items ≡ slice_set s.ends.items (home_of m now.chare) (now.start + duration_of m now.block.cost) → t.mails.items ≡ mails → t.histories.items ≡ hs → AreBest m book hs t.bests.items → Follows p limit m (now ∷ bs) t
-        follows_now t same_book same_ends same_mails same_histories bests = record {
-          reached = reached_now;
-          book = ap keyed same_book ∙ entries_now;
-          processors = ap (λ xs. length xs) same_ends ∙ (length-set s.ends.items (home_of m now.chare) (now.start + duration_of m now.block.cost) ∙ f.processors);
-          ends = λ q l. ap (λ xs. get_or xs q 0) same_ends ∙ ends_now q l;
-          chares = ap (λ xs. length xs) same_mails ∙ mails_count;
-          mails = λ c l. ap (λ xs. mail_at xs c) same_mails ∙ mails_are c l;
-          histories = same_histories ∙ histories_are;
-          bests = subst (λ b. AreBest m b t.histories.items t.bests.items) (sym same_book) (subst (λ hs. AreBest m book hs t.bests.items) (sym same_histories) bests);
-        }
+          pub histories_are : hs ≡ histories_at p limit (now ∷ bs)
+          histories_are = numbered (λ c. history p limit c (mail_to (messages (now ∷ bs)) c)) p.chares 0 hs (are.count ∙ mails_count) (λ c l.
+              are.each c (let k = mails_count in omega (arith, l, k)) ∙ (ap (λ mail. Some (history p limit c mail)) (mails_are c l) ∙ ap (λ d. Some (history p limit d (mail_to (messages (now ∷ bs)) d))) (omega arith)))
+
+          -- a chare that wasn't heard of, and isn't that of the block
+          other_best : (c : ℕ) → slice_get heard c ≡ Some false → (now.chare ≡ c → ⊥) → best_at m book hs s.bests.items c
+          other_best c e other =
+              let within = slice_get_within heard c false e in
+              let count = kept.count in
+              let chares = f.chares in
+              let lt : c < p.chares = omega (arith, within, count, chares) in
+              let k = mails_count in
+              let fresh = next_now.candidate.enabled.fresh in
+              let mail = kept.kept c e ∙ f.mails c lt in
+              let here = are.each c (omega (arith, lt, k)) ∙ ap (λ mail. Some (history p limit c mail)) mail in
+              let there = history_here p limit m bs s f c lt in
+              let old = subst (λ h. best_among m s.book c h (slice_get s.bests.items c)) there (f.bests.each c (slice_get_within s.histories.items c _ there)) in
+              subst (λ h. best_among m book c h (slice_get s.bests.items c)) (sym here)
+              (best_stays m now bs s.book book (tied p limit m bs s f) tied_now p limit f.started fresh c other (slice_get s.bests.items c) old)
+
+          pub bests_kept : (c : ℕ) → slice_get (slice_set heard now.chare true) c ≡ Some false → best_at m book hs s.bests.items c
+          bests_kept c e = by_case (cases_eq now.chare c)
+            where
+              by_case : (now.chare ≡ c) ⊎ (now.chare ≡ c → ⊥) → best_at m book hs s.bests.items c
+              by_case (inl same_chare) =
+                  let lt = chare_low p limit m bs s f nx least same in
+                  let count = kept.count in
+                  let chares = f.chares in
+                  let there = get_set_same heard now.chare true (omega (arith, lt, count, chares)) in
+                  let here : slice_get (slice_set heard now.chare true) now.chare ≡ Some false = subst (λ c. slice_get (slice_set heard now.chare true) c ≡ Some false) (sym same_chare) e in
+                  absurd (cc)
+              by_case (inr other) = other_best c (sym (get_set_other heard now.chare c true other) ∙ e) other
+
+          ends_if : (q : ℕ) (t : Bool) → q < processors_of m → (home_of m now.chare == q) ≡ t → get_or (slice_set s.ends.items (home_of m now.chare) (now.start + duration_of m now.block.cost)) q 0 ≡ (if t then now.start + duration_of m now.block.cost else free (machine_of m) bs q)
+          ends_if q true l e =
+              let same_home = eqb-true _ _ e in
+              let k = f.processors in
+              subst (λ q. get_or (slice_set s.ends.items (home_of m now.chare) (now.start + duration_of m now.block.cost)) q 0 ≡ now.start + duration_of m now.block.cost) same_home
+              (get_or-set_same s.ends.items (home_of m now.chare) (now.start + duration_of m now.block.cost) 0 (omega (arith, l, same_home, k)))
+          ends_if q false l e = get_or-set_other s.ends.items (home_of m now.chare) q (now.start + duration_of m now.block.cost) 0 (λ h. eqb-false _ _ e (sym h)) ∙ f.ends q l
+
+          ends_now : (q : ℕ) → q < processors_of m → get_or (slice_set s.ends.items (home_of m now.chare) (now.start + duration_of m now.block.cost)) q 0 ≡ free (machine_of m) (now ∷ bs) q
+          unfolding machine_of
+          ends_now q l = ends_if q (home_of m now.chare == q) l refl
+
+          pub follows_now : (t : State) → t.book ≡ book → t.ends.items ≡ slice_set s.ends.items (home_of m now.chare) (now.start + duration_of m now.block.cost) → t.mails.items ≡ mails → t.histories.items ≡ hs → AreBest m book hs t.bests.items → Follows p limit m (now ∷ bs) t
+          follows_now t same_book same_ends same_mails same_histories bests = record {
+            started = started_now;
+            book = ap keyed same_book ∙ entries_now;
+            processors = ap (λ xs. length xs) same_ends ∙ (length-set s.ends.items (home_of m now.chare) (now.start + duration_of m now.block.cost) ∙ f.processors);
+            ends = λ q l. ap (λ xs. get_or xs q 0) same_ends ∙ ends_now q l;
+            chares = ap (λ xs. length xs) same_mails ∙ mails_count;
+            mails = λ c l. ap (λ xs. mail_at xs c) same_mails ∙ mails_are c l;
+            histories = same_histories ∙ histories_are;
+            bests = subst (λ b. AreBest m b t.histories.items t.bests.items) (sym same_book) (subst (λ hs. AreBest m book hs t.bests.items) (sym same_histories) bests);
+          }

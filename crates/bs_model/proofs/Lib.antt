@@ -2,9 +2,10 @@ pub mod Beginning
 pub mod Books
 pub mod Choices
 pub mod Choosing
+pub mod Closing
 pub mod Counts
-pub mod Deciding
 pub mod Delivery
+pub mod Denying
 pub mod Early
 pub mod Enabled
 pub mod Ending
@@ -14,5 +15,7 @@ pub mod Places
 pub mod Pushing
 pub mod Readies
 pub mod Renewal
+pub mod Running
+pub mod Sizing
 pub mod Staying
 pub mod Stepping

@@ -1,5 +1,5 @@
 -- Reading and writing at a place of a list.
-use Rattle.std.proofs.Common.{◌≡◌, ◌<◌, ◌+◌, ◌⊎◌, inl, inr, ℕ, zero, suc, List, [], ◌∷◌, ◌++◌, Some, None, length, slice_get, slice_set, get_or, map, refl, sym, ap, subst, ◌∙◌, arith}
+use Rattle.std.proofs.Common.{◌≡◌, ◌<◌, ◌+◌, inl, inr, ℕ, zero, suc, List, [], ◌∷◌, Some, length, slice_get, slice_set, get_or, map, refl, sym, ap, subst, ◌∙◌, arith}
 use Rattle.bs_semantics.specs.Rounds.{Mem, from_to}
 
 pub get_set_same : {A : Type 0} (xs : List A) (i : ℕ) (v : A) → i < length xs → slice_get (slice_set xs i v) i ≡ Some v

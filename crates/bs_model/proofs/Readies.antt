@@ -1,5 +1,5 @@
 -- The ticks of a block's causes, one after the other.
-use Rattle.std.proofs.Common.{◌≡◌, ℕ, max, List, [], ◌∷◌, Option, Some, None, refl, ap, arith}
+use Rattle.std.proofs.Common.{◌≡◌, ℕ, max, Option, Some, None, refl, ap, arith}
 use Rattle.bs_model.specs.declared.book.Begun.{Begun}
 use Rattle.bs_model.specs.Ready.{later}
 

@@ -1,5 +1,5 @@
 -- A chare whose mail and blocks stay as they were keeps its best block.
-use Rattle.std.proofs.Common.{◌≡◌, ◌<◌, ◌⊎◌, inl, inr, ℕ, ◌+◌, ◌==◌, ◌&&◌, max, Bool, true, false, if◌then◌else◌, List, [], ◌∷◌, Option, Some, None, length, slice_get, slice_set, option_map, refl, sym, ap, ap₂, subst, ◌∙◌, arith, eqb-true}
+use Rattle.std.proofs.Common.{◌≡◌, inl, inr, ℕ, ◌+◌, ◌==◌, ◌&&◌, max, Bool, true, false, if◌then◌else◌, List, [], ◌∷◌, Option, Some, None, option_map, refl, sym, ap, ap₂, subst, ◌∙◌, eqb-true}
 use Rattle.std.proofs.lemmas.Bool.{and_parts}
 use Rattle.std.proofs.lemmas.Map.Lookups.{exact_bytes}
 use Rattle.std.proofs.lemmas.Map.Views.{tells_apart}
@@ -14,10 +14,8 @@ use Rattle.bs_semantics.specs.Acts.{Parcel}
 use Rattle.bs_semantics.specs.Run.{signed, history}
 use Rattle.bs_semantics.specs.Rounds.{Mem, mail_to}
 use Rattle.bs_semantics.specs.Serial.{Started, messages, find, same_path}
-use Rattle.bs_semantics.specs.Reached.{IsReached}
 use Rattle.bs_semantics.proofs.Find.{finds}
 use Rattle.bs_semantics.proofs.Mails.{found}
-use Rattle.bs_semantics.proofs.Reached.{reached_blocks}
 use Rattle.bs_semantics.proofs.Rests.{run_came}
 use Rattle.bs_semantics.proofs.Signed.{run_signed}
 use Rattle.bs_semantics.proofs.Starting.{sent_by}
@@ -28,20 +26,22 @@ use Rattle.bs_times.specs.Machine.{machine_of}
 use Rattle.bs_model.specs.Next.{best_among}
 use Rattle.bs_model.specs.Ready.{later, ends_in, arrival_at, arrivals_in, ready_where, ready_unless, candidate_in}
 use Rattle.bs_model.specs.State.{begun_of}
+use Rattle.bs_model.specs.Started.{AreStarted}
 use Rattle.bs_model.proofs.Places.{mem_get}
+use Rattle.bs_model.proofs.Running.{are_blocks}
 
-signed_at : (this : ℕ) (path : List ℕ) (d k : ℕ) (ps : List Parcel) (m : Message) → Mem m (signed this path d k ps) → (m.origin.chare ≡ this) × (m.origin.path.0 ≡ path)
+pub signed_at : (this : ℕ) (path : List ℕ) (d k : ℕ) (ps : List Parcel) (m : Message) → Mem m (signed this path d k ps) → (m.origin.chare ≡ this) × (m.origin.path.0 ≡ path)
 signed_at this path d k [] m i = absurd i
 signed_at this path d k (p ∷ ps) m (inl e) = (ap (λ (m : Message). m.origin.chare) e, ap (λ (m : Message). m.origin.path.0) e)
 signed_at this path d k (p ∷ ps) m (inr i) = signed_at this path d (k + 1) ps m i
 
 -- the block that sent a message cause was started
-origin_found : (p : Program) (limit : ℕ) (m : Fitted) (bs : List Started) → IsReached p limit (machine_of m) bs → (c : ℕ) (x : Block) → Mem x (history p limit c (mail_to (messages bs) c)).blocks → (o : Origin) → Mem o x.mail → (d : Started) × (find bs o.chare o.path.0 ≡ Some d)
+origin_found : (p : Program) (limit : ℕ) (m : Fitted) (bs : List Started) → AreStarted p limit (machine_of m) bs → (c : ℕ) (x : Block) → Mem x (history p limit c (mail_to (messages bs) c)).blocks → (o : Origin) → Mem o x.mail → (d : Started) × (find bs o.chare o.path.0 ≡ Some d)
 origin_found p limit m bs r c x i o j =
     let came = run_came (mail_to (messages bs) c) p limit c x i o j in
     let held = found (messages bs) c came.key came.message came.is_held in
     let by = sent_by bs came.message held.0 in
-    let a = reached_blocks p limit (machine_of m) bs r by.started by.is_in in
+    let a = are_blocks p limit (machine_of m) bs r by.started by.is_in in
     let s = run_signed p limit by.started.chare (mail_to (messages bs) by.started.chare) by.started.block a.1 in
     let at = signed_at by.started.chare by.started.block.path.0 by.started.block.depth 1 s.parcels came.message (subst (Mem came.message) s.sends by.is_sent) in
     let d = finds bs by.started by.is_in in
@@ -86,7 +86,7 @@ module _ (m : Fitted) (b : Started) (bs : List Started) (old new : Book) (tie : 
   }
 
   -- the best block of another chare, whose history is the same
-  pub best_stays : (p : Program) (limit : ℕ) → IsReached p limit (machine_of m) bs → find bs b.chare b.block.path.0 ≡ None → (c : ℕ) → (b.chare ≡ c → ⊥) → (o : Option (Option Best))
+  pub best_stays : (p : Program) (limit : ℕ) → AreStarted p limit (machine_of m) bs → find bs b.chare b.block.path.0 ≡ None → (c : ℕ) → (b.chare ≡ c → ⊥) → (o : Option (Option Best))
       → best_among m old c (Some (history p limit c (mail_to (messages bs) c))) o → best_among m new c (Some (history p limit c (mail_to (messages bs) c))) o
   best_stays p limit r fresh c n o k =
       best_same c (history p limit c (mail_to (messages bs) c)) o (λ x i. candidate_same c x n (λ u j.

@@ -1,6 +1,6 @@
 -- The blocks that were started, as a list in the order of their keys.
-use Rattle.std.specs.Prelude.{ℕ, List, [], ◌∷◌, map, Option, Some, None}
-use Rattle.std.specs.Ordering.{nat_cmp, match_ordering}
+use Rattle.std.specs.Prelude.{ℕ, List, ◌∷◌, map, Option}
+use Rattle.std.specs.Ordering.{nat_cmp}
 use Rattle.std.specs.Cmp.Lexicographic.{slice_cmp}
 use Rattle.std.specs.Map as entry
 use Rattle.std.specs.BTreeMap.{is_at, insert_entry}

@@ -1,6 +1,9 @@
 pub mod Book
+pub mod Clean
 pub mod Mails
 pub mod Next
 pub mod Ready
 pub mod Simulated
+pub mod Started
 pub mod State
+pub mod Stop

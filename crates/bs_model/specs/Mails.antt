@@ -1,5 +1,5 @@
 -- The mails of the chares, and the histories under them.
-use Rattle.std.specs.Prelude.{◌≡◌, ◌≤◌, ◌<◌, ◌⊎◌, ℕ, ◌==◌, Bool, false, if◌then◌else◌, List, [], ◌∷◌, Option, Some, None, length, slice_get, map, option_map}
+use Rattle.std.specs.Prelude.{◌≡◌, ◌≤◌, ◌<◌, ℕ, ◌==◌, Bool, false, if◌then◌else◌, List, [], ◌∷◌, Option, Some, None, length, slice_get}
 use Rattle.bs_tree.specs.declared.tree.Program.{Program}
 use Rattle.bs_log.specs.declared.history.Key.{Key}
 use Rattle.bs_log.specs.declared.history.Message.{Message}
@@ -7,7 +7,7 @@ use Rattle.bs_log.specs.declared.history.History.{History}
 use Rattle.bs_log.specs.Size.{size}
 use Rattle.bs_match.specs.Mail.{lookup, with_message}
 use Rattle.bs_semantics.specs.Run.{Lookup, history}
-use Rattle.bs_semantics.specs.Rounds.{Mem}
+use Rattle.bs_semantics.specs.Rounds.{Mem, Apart, one_key}
 
 -- what a list of messages holds, if there is one
 abbrev pub mail_in : Option (List Message) → Lookup
@@ -33,11 +33,19 @@ pub record AreKept (old : List (List Message)) (heard : List Bool) (new : List (
   pub count : length heard ≡ length old
   pub kept : (c : ℕ) → slice_get heard c ≡ Some false → mail_at new c ≡ mail_at old c
 
--- messages go to chares, and those of one key to one chare are one message, also where it was put before
-pub record CanDeliver (mails : List (List Message)) (ms : List Message) : Type 0 where
-  pub target : (m : Message) → Mem m ms → m.sent.to < length mails
-  pub among : (m x : Message) → Mem m ms → Mem x ms → x.sent.to ≡ m.sent.to → x.sent.key ≡ m.sent.key → x ≡ m
-  pub held : (m x : Message) → Mem m ms → mail_at mails m.sent.to m.sent.key ≡ Some x → x ≡ m
+-- a mail has no message of this one's key, and it is no deeper than the limit
+pub record CanPut (limit : ℕ) (m : Message) (mail : Lookup) : Type 0 where
+  pub free : mail m.sent.key ≡ None
+  pub low : m.origin.depth ≤ limit
+
+-- no chare is sent a key twice, or again, and no message is deeper than the limit
+pub record CanDeliver (limit : ℕ) (mails : List (List Message)) (ms : List Message) : Type 0 where
+  pub apart : Apart one_key ms
+  pub each : (m : Message) → Mem m ms → CanPut limit m (mail_at mails m.sent.to)
+
+-- messages go to chares
+abbrev pub AreFor : ℕ → List Message → Type 0
+AreFor count ms = (m : Message) → Mem m ms → m.sent.to < count
 
 -- no message is deeper than the greatest limit
 abbrev pub IsShallow : List Message → Type 0

@@ -1,5 +1,5 @@
 -- The best block of a chare, and the next one of all.
-use Rattle.std.specs.Prelude.{◌≡◌, ◌≤◌, ◌<◌, ◌⊎◌, ℕ, ◌==◌, max, Bool, ◌||◌, ◌&&◌, if◌then◌else◌, nat_lt, nat_le, List, [], ◌∷◌, Option, Some, None, slice_get, get_or, length}
+use Rattle.std.specs.Prelude.{◌≡◌, ◌≤◌, ◌<◌, ◌⊎◌, ℕ, ◌==◌, max, Bool, if◌then◌else◌, nat_lt, nat_le, List, Option, Some, None, slice_get, get_or, length}
 use Rattle.bs_log.specs.declared.history.Block.{Block}
 use Rattle.bs_log.specs.declared.history.History.{History}
 use Rattle.bs_machine.specs.declared.fitted.Fitted.{Fitted}

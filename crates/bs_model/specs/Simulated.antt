@@ -1,5 +1,5 @@
 -- What the serial machine model is told to give.
-use Rattle.std.specs.Prelude.{◌≡◌, ℕ}
+use Rattle.std.specs.Prelude.{ℕ}
 use Rattle.bs_tree.specs.declared.tree.Program.{Program}
 use Rattle.bs_report.specs.Report.{IsReportable}
 use Rattle.bs_semantics.specs.Rounds.{CleanAt}

@@ -4,16 +4,15 @@ use Rattle.bs_tree.specs.declared.tree.Program.{Program}
 use Rattle.bs_machine.specs.declared.fitted.Fitted.{Fitted}
 use Rattle.bs_machine.specs.Fitted.{processors_of, home_of, duration_of}
 use Rattle.bs_semantics.specs.Run.{put_all}
-use Rattle.bs_semantics.specs.Rounds.{CleanAt, mail_to}
+use Rattle.bs_semantics.specs.Rounds.{mail_to}
 use Rattle.bs_semantics.specs.Serial.{Started, messages, histories_at, free, started_cmp}
-use Rattle.bs_semantics.specs.Reached.{IsReached}
 use Rattle.bs_model.specs.declared.book.Begun.{Begun}
-use Rattle.bs_model.specs.declared.book.Book.{Book}
 use Rattle.bs_model.specs.declared.state.State.{State}
 use Rattle.bs_model.specs.Book.{keyed}
 use Rattle.bs_times.specs.Machine.{machine_of}
 use Rattle.bs_model.specs.Mails.{mail_at}
 use Rattle.bs_model.specs.Next.{AreBest}
+use Rattle.bs_model.specs.Started.{AreStarted}
 
 -- a started block, as the book keeps it
 abbrev pub begun_of : Fitted → Started → Begun
@@ -27,7 +26,7 @@ entry_of m b = (b.chare ∷ b.block.path.0, begun_of m b)
 
 -- the state after these blocks were started, the last one first
 pub record Follows (p : Program) (limit : ℕ) (m : Fitted) (bs : List Started) (s : State) : Type 0 where
-  pub reached : IsReached p limit (machine_of m) bs
+  pub started : AreStarted p limit (machine_of m) bs
   pub book : keyed s.book ≡ map (entry_of m) (put_all (started_cmp (machine_of m)) bs [])
   pub processors : length s.ends.items ≡ processors_of m
   pub ends : (q : ℕ) → q < processors_of m → get_or s.ends.items q 0 ≡ free (machine_of m) bs q

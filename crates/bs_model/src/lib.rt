@@ -5,6 +5,7 @@
 
 mod book;
 mod candidates;
+mod clean;
 mod copies;
 mod mails;
 mod model;
@@ -12,6 +13,7 @@ mod outcome;
 mod ready;
 mod simulated;
 mod state;
+mod stop;
 
 pub use model::simulate;
 pub use simulated::Simulated;

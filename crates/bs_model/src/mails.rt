@@ -1,50 +1,64 @@
 // The mails of the chares, and the histories under them.
-ghost use Rattle.std.specs.Prelude.{◌≡◌, ◌≤◌, ◌<◌, ℕ, false, IfOk, OnOk, Some, length, slice_get};
-ghost use Rattle.bs_log.specs.declared.history.Message.{Message as Letter};
+ghost use Rattle.std.specs.Prelude.{◌≡◌, ◌≤◌, ◌<◌, ℕ, false, IfOk, IfErr, OnOk, Some, length, slice_get};
 ghost use Rattle.bs_log.specs.Size.{size};
 ghost use Rattle.bs_match.specs.Mail.{lookup, with_message};
 ghost use Rattle.bs_semantics.specs.Run.{history as history_of};
-ghost use Rattle.bs_model.specs.Mails.{AreDelivered, AreHistories, AreKept, AreShallow, AreShort, CanDeliver, IsShallow, history_at};
+ghost use Rattle.bs_model.specs.Mails.{AreDelivered, AreFor, AreHistories, AreKept, AreShallow, AreShort, CanDeliver, CanPut, IsShallow, history_at};
+ghost use Rattle.bs_model.specs.Stop.{Denies};
 
+use crate::stop::Stop;
 use bs_check::Accepted;
 use bs_history::{HistoryFault, history};
 use bs_log::{History, Message};
 use bs_match::{Mail, PutFault};
-use std::alloc::{AllocError, Global};
+use std::alloc::Global;
 
 /// Puts messages into the mails of the chares that they go to, and tells of each chare whether it got
 /// one.
+///
+/// `Unclean` comes where a chare is sent a key twice, or one that its mail has, or where a message is
+/// deeper than the limit.
 pub(crate) fn deliver(
     alloc: Global,
+    limit: u64,
     mails: &mut [Mail],
     messages: Vec<Message>,
-) -> Result<Vec<bool>, AllocError>
-    requires { CanDeliver mails.old messages.items }
+) -> Result<Vec<bool>, Stop>
+    requires { AreFor (length mails.old) messages.items }
     ensures delivered { OnOk result (AreDelivered mails.old messages.items mails.new) }
     ensures heard { IfOk result (λ heard. AreKept mails.old heard.items mails.new) }
+    ensures given { OnOk result (CanDeliver limit mails.old messages.items) }
+    ensures stopped { IfErr result (Denies (CanDeliver limit mails.old messages.items)) }
 {
     let mut heard = vec![in alloc; false; mails.len()]?;
     let mut rest = messages;
     while let Some(message) = rest.pop() {
         let to = message.sent.to as usize;
         heard[to] = true;
-        put(&mut mails[to], message)?;
+        put(limit, &mut mails[to], message)?;
     }
     Ok(heard)
 }
 
-// Puts a message into a mail. One of its key that is held is this very message, and may stay.
-fn put(mail: &mut Mail, message: Message) -> Result<(), AllocError>
-    requires { (x : Letter) → lookup mail.old message.sent.key ≡ Some x → x ≡ message }
-    ensures { OnOk result (lookup mail.new ≡ with_message message (lookup mail.old)) }
+// Puts a message into a mail.
+fn put(limit: u64, mail: &mut Mail, message: Message) -> Result<(), Stop>
+    ensures held { OnOk result (lookup mail.new ≡ with_message message (lookup mail.old)) }
+    ensures given { OnOk result (CanPut limit message (lookup mail.old)) }
+    ensures stopped { IfErr result (Denies (CanPut limit message (lookup mail.old))) }
 {
+    if u64::from(message.origin.depth) > limit {
+        return Err(Stop::Unclean);
+    }
     match mail.put(message) {
-        Ok(()) | Err(PutFault::TwoSent(_)) => Ok(()),
-        Err(PutFault::Memory(_)) => Err(AllocError),
+        Ok(()) => Ok(()),
+        Err(PutFault::TwoSent(_)) => Err(Stop::Unclean),
+        Err(PutFault::Memory(_)) => Err(Stop::Memory),
     }
 }
 
 /// Takes the histories of those chares anew that got a message.
+///
+/// `Unclean` comes where the size of one is above the limit.
 pub(crate) fn renew(
     alloc: Global,
     accepted: &Accepted,
@@ -52,14 +66,14 @@ pub(crate) fn renew(
     heard: &[bool],
     limit: u64,
     histories: &mut [History],
-) -> Result<(), AllocError>
+) -> Result<(), Stop>
     requires chares { length mails.now ≡ accepted.now.program.chares }
     requires lengths { (length heard.now ≡ length mails.now) × (length histories.old ≡ length mails.now) }
     requires limit { limit ≤ 262144 }
     requires shallow { AreShallow mails.now }
-    requires short { AreShort accepted.now.program limit mails.now }
     requires kept { (c : ℕ) → slice_get heard.now c ≡ Some false → slice_get histories.old c ≡ history_at accepted.now.program limit mails.now c }
-    ensures { OnOk result (AreHistories accepted.now.program limit mails.now histories.new) }
+    ensures taken { OnOk result (AreHistories accepted.now.program limit mails.now histories.new) }
+    ensures stopped { IfErr result (Denies (AreShort accepted.now.program limit mails.now)) }
 {
     for chare in 0..histories.len() {
         if heard[chare] {
@@ -69,25 +83,27 @@ pub(crate) fn renew(
     Ok(())
 }
 
-/// The history of a chare under a mail, where it isn't too long.
+/// The history of a chare under a mail.
+///
+/// `Unclean` comes where its size is above the limit.
 pub(crate) fn take(
     alloc: Global,
     accepted: &Accepted,
     chare: u32,
     mail: &Mail,
     limit: u64,
-) -> Result<History, AllocError>
+) -> Result<History, Stop>
     requires chare { chare < accepted.now.program.chares }
     requires limit { limit ≤ 262144 }
     requires shallow { IsShallow mail.now }
-    requires short { size (history_of accepted.now.program limit chare (lookup mail.now)) ≤ limit }
-    ensures { IfOk result (λ h. h ≡ history_of accepted.now.program limit chare (lookup mail.now)) }
+    ensures taken { IfOk result (λ h. h ≡ history_of accepted.now.program limit chare (lookup mail.now)) }
+    ensures stopped { IfErr result (Denies (size (history_of accepted.now.program limit chare (lookup mail.now)) ≤ limit)) }
 {
     // The keys of a mail rise, so each of its messages is found by its key.
     let _messages = mail.len();
     match history(alloc, accepted, chare, mail, limit) {
         Ok(history) => Ok(history),
-        Err(HistoryFault::Memory) => Err(AllocError),
-        Err(HistoryFault::Long) => unreachable!(),
+        Err(HistoryFault::Long) => Err(Stop::Unclean),
+        Err(HistoryFault::Memory) => Err(Stop::Memory),
     }
 }

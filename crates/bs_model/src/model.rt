@@ -1,17 +1,17 @@
 // The serial machine model.
-ghost use Rattle.std.specs.Prelude.{◌≡◌, ◌≤◌, ℕ, IfOk};
+ghost use Rattle.std.specs.Prelude.{◌≡◌, ◌≤◌, IfOk, IfErr, OnOk};
 ghost use Rattle.bs_report.specs.Report.{IsReportable};
-ghost use Rattle.bs_semantics.specs.Rounds.{CleanAt};
 ghost use Rattle.bs_semantics.specs.Serial.{IsSerial, timed};
 ghost use Rattle.bs_times.specs.Machine.{machine_of};
 ghost use Rattle.bs_model.specs.Simulated.{IsDecided, IsSimulated};
+ghost use Rattle.bs_model.specs.Stop.{Denies, HasCleanRound};
 
 use crate::simulated::Simulated;
 use crate::state::State;
+use crate::stop::Stop;
 use bs_check::Accepted;
 use bs_log::Outcome;
 use bs_machine::Fitted;
-use bs_rounds::{Verdict, verdict};
 use std::alloc::{AllocError, Global};
 
 /// What the serial machine model gives for a program on a machine that was fitted to the program's
@@ -29,34 +29,31 @@ pub fn simulate(
     ensures value { IfOk result (λ s. IsSimulated accepted.now.program limit (machine_of machine.now) s) }
     ensures decided { IfOk result (λ s. IsDecided accepted.now.program limit s) }
 {
-    let Verdict::Clean(_) = verdict(alloc, accepted, limit)? else {
-        return Ok(Simulated::Unclean);
-    };
-    let outcome = run(alloc, accepted, machine, limit)?;
-    Ok(Simulated::Timed(outcome))
+    match run(alloc, accepted, machine, limit) {
+        Ok(outcome) => Ok(Simulated::Timed(outcome)),
+        Err(Stop::Unclean) => Ok(Simulated::Unclean),
+        Err(Stop::Memory) => Err(AllocError),
+    }
 }
 
-// Starts blocks until none can start. Where the verdict is Clean, each state is clean, so none needs to
-// be tested.
-fn run(
-    alloc: Global,
-    accepted: &Accepted,
-    machine: &Fitted,
-    limit: u64,
-) -> Result<Outcome, AllocError>
+// Starts blocks until none can start. Where the verdict is Clean, each state is clean. So nothing is
+// tested of a state on the way but what the next step needs, and all of the last state, which is clean
+// only where the verdict is Clean.
+fn run(alloc: Global, accepted: &Accepted, machine: &Fitted, limit: u64) -> Result<Outcome, Stop>
     requires chares { machine.now.chares ≡ accepted.now.program.chares }
     requires limit { (1 ≤ limit) × (limit ≤ 262144) }
-    requires clean { (n : ℕ) × CleanAt accepted.now.program limit n }
     ensures serial { IfOk result (λ o. IsSerial accepted.now.program limit (machine_of machine.now) (timed o)) }
     ensures reportable { IfOk result IsReportable }
+    ensures clean { OnOk result (HasCleanRound accepted.now.program limit) }
+    ensures stopped { IfErr result (Denies (HasCleanRound accepted.now.program limit)) }
 {
     let mut state = State::begin(alloc, accepted, machine, limit)?;
     for _turn in 0..limit + 1 {
         match state.next(machine) {
             Some(next) => state = state.start(alloc, accepted, machine, limit, next)?,
-            None => return state.outcome(alloc),
+            None => return state.outcome(alloc, limit),
         }
     }
     // A clean state has no more blocks than the limit.
-    unreachable!()
+    Err(Stop::Unclean)
 }

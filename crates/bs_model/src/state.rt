@@ -1,18 +1,21 @@
 // The state of the machine, and its steps.
-ghost use Rattle.std.specs.Prelude.{◌≡◌, ◌≤◌, ◌<◌, ◌^◌, ℕ, List, [], ◌∷◌, false, IfOk, OnOk, Some, length, map, slice_get};
+ghost use Rattle.std.specs.Prelude.{◌≡◌, ◌≤◌, ◌<◌, ◌^◌, List, [], ◌∷◌, ◌++◌, IfOk, IfErr, OnOk, Some, length, map, slice_get};
 ghost use Rattle.bs_machine.specs.Fitted.{home_of, processors_of};
-ghost use Rattle.bs_semantics.specs.Rounds.{CleanAt};
 ghost use Rattle.bs_semantics.specs.Serial.{Started};
 ghost use Rattle.bs_model.specs.Book.{keyed};
 ghost use Rattle.bs_model.specs.Next.{IsLeast};
 ghost use Rattle.bs_log.specs.Collected.{traps_from, waits_from};
+ghost use Rattle.bs_model.specs.Clean.{AreClean};
 ghost use Rattle.bs_model.specs.State.{Follows, begun_of};
+ghost use Rattle.bs_model.specs.Stop.{Denies, HasCleanRound};
 
 use crate::book::{Begun, Book};
 use crate::candidates::{Best, Next, best_block, choose, next_block};
+use crate::clean::are_clean;
 use crate::copies::{copy_messages, copy_numbers, copy_sends};
 use crate::mails::{deliver, renew, take};
 use crate::outcome::{traps, waits};
+use crate::stop::Stop;
 use bs_check::Accepted;
 use bs_log::{Block, History, OutRow, Outcome};
 use bs_machine::Fitted;
@@ -31,26 +34,29 @@ pub(crate) struct State {
 }
 
 impl State {
-    ghost use Rattle.std.specs.Prelude.{◌≡◌, ◌≤◌, ◌<◌, ◌^◌, ℕ, List, [], ◌∷◌, false, IfOk, OnOk, Some, length, map, slice_get};
+    ghost use Rattle.std.specs.Prelude.{◌≡◌, ◌≤◌, ◌<◌, ◌^◌, List, [], ◌∷◌, IfOk, IfErr, OnOk, Some, length, map, slice_get};
     ghost use Rattle.bs_machine.specs.Fitted.{home_of, processors_of};
-    ghost use Rattle.bs_semantics.specs.Rounds.{CleanAt};
     ghost use Rattle.bs_semantics.specs.Serial.{Started};
     ghost use Rattle.bs_model.specs.Book.{keyed};
     ghost use Rattle.bs_model.specs.Next.{IsLeast};
     ghost use Rattle.bs_log.specs.Collected.{traps_from, waits_from};
+    ghost use Rattle.bs_model.specs.Clean.{AreClean};
     ghost use Rattle.bs_model.specs.State.{Follows, begun_of};
+    ghost use Rattle.bs_model.specs.Stop.{Denies, HasCleanRound};
 
     /// Nothing is started yet.
+    ///
+    /// `Unclean` comes only where the verdict isn't Clean.
     pub(crate) fn begin(
         alloc: Global,
         accepted: &Accepted,
         machine: &Fitted,
         limit: u64,
-    ) -> Result<State, AllocError>
+    ) -> Result<State, Stop>
         requires chares { machine.now.chares ≡ accepted.now.program.chares }
         requires limit { (1 ≤ limit) × (limit ≤ 262144) }
-        requires clean { (n : ℕ) × CleanAt accepted.now.program limit n }
-        ensures { IfOk result (Follows accepted.now.program limit machine.now []) }
+        ensures begun { IfOk result (Follows accepted.now.program limit machine.now []) }
+        ensures stopped { IfErr result (Denies (HasCleanRound accepted.now.program limit)) }
     {
         let chares = accepted.chares();
         let book = Book::new(alloc);
@@ -60,9 +66,10 @@ impl State {
         for chare in 0..chares {
             let mail = Mail::new(alloc);
             let history = take(alloc, accepted, chare, &mail, limit)?;
-            bests.push(best_block(alloc, machine, &book, chare, history.blocks.as_slice())?)?;
-            histories.push(history)?;
-            mails.push(mail)?;
+            let best = best_block(alloc, machine, &book, chare, history.blocks.as_slice())?;
+            push(&mut bests, best)?;
+            push(&mut histories, history)?;
+            push(&mut mails, mail)?;
         }
         let ends = vec![in alloc; 0; machine.processors() as usize]?;
         Ok(State {
@@ -83,7 +90,9 @@ impl State {
         next_block(machine, &self.bests, &self.ends)
     }
 
-    /// Starts a block, and sends its messages.
+    /// Starts a block, and sends its messages. Before it no more blocks were started than the limit.
+    ///
+    /// `Unclean` comes only where the verdict isn't Clean.
     pub(crate) fn start(
         self,
         alloc: Global,
@@ -91,13 +100,13 @@ impl State {
         machine: &Fitted,
         limit: u64,
         next: Next,
-    ) -> Result<State, AllocError>
+    ) -> Result<State, Stop>
         requires chares { machine.now.chares ≡ accepted.now.program.chares }
         requires limit { (1 ≤ limit) × (limit ≤ 262144) }
-        requires clean { (n : ℕ) × CleanAt accepted.now.program limit n }
-        requires follows { (bs : List Started) × Follows accepted.now.program limit machine.now bs self }
+        requires follows { (bs : List Started) × Follows accepted.now.program limit machine.now bs self × (length bs ≤ limit) }
         requires least { IsLeast machine.now self.ends.items self.bests.items (Some next) }
-        ensures { IfOk result (λ s. (bs : List Started) → Follows accepted.now.program limit machine.now bs self → (b : Started) × Follows accepted.now.program limit machine.now (b ∷ bs) s) }
+        ensures follows { IfOk result (λ s. (bs : List Started) → Follows accepted.now.program limit machine.now bs self → length bs ≤ limit → (b : Started) × Follows accepted.now.program limit machine.now (b ∷ bs) s) }
+        ensures stopped { IfErr result (Denies (HasCleanRound accepted.now.program limit)) }
     {
         let State {
             mut book,
@@ -111,7 +120,7 @@ impl State {
         let messages = copy_messages(alloc, block.sends.as_slice())?;
         ends[next.processor as usize] = begun.row.end;
         book.put(alloc, &block.path, begun)?;
-        let mut changed = deliver(alloc, &mut mails, messages)?;
+        let mut changed = deliver(alloc, limit, &mut mails, messages)?;
         renew(alloc, accepted, &mails, &changed, limit, &mut histories)?;
         changed[next.chare as usize] = true;
         choose(alloc, machine, &book, &histories, &changed, &mut bests)?;
@@ -125,17 +134,23 @@ impl State {
     }
 
     /// The outcome, where no block can start.
-    pub(crate) fn outcome(self, alloc: Global) -> Result<Outcome, AllocError>
-        requires { length self.histories.items ≤ 65536 }
+    ///
+    /// `Unclean` comes where the histories are too long together, or a chare asks for a key twice.
+    pub(crate) fn outcome(self, alloc: Global, limit: u64) -> Result<Outcome, Stop>
+        requires chares { length self.histories.items ≤ 65536 }
+        requires limit { limit ≤ 262144 }
         ensures rows { IfOk result (λ o. o.rows ≡ map (λ e. e.1.row) (keyed self.book)) }
         ensures traps { IfOk result (λ o. o.traps ≡ traps_from 0 self.histories.items) }
         ensures waits { IfOk result (λ o. o.waits ≡ waits_from 0 self.histories.items) }
+        ensures clean { OnOk result (AreClean limit self.histories.items) }
+        ensures stopped { IfErr result (Denies (AreClean limit self.histories.items)) }
     {
         let State {
             book,
             histories,
             ..
         } = self;
+        are_clean(alloc, limit, &histories)?;
         Ok(Outcome {
             rows: book.rows(alloc)?,
             traps: traps(alloc, &histories)?,
@@ -165,6 +180,13 @@ fn begin(alloc: Global, machine: &Fitted, block: &Block, next: &Next) -> Result<
         },
         sends,
     })
+}
+
+fn push<T: Drop>(items: &mut Vec<T>, item: T) -> Result<(), AllocError>
+    ensures { OnOk result (items.new.items ≡ items.old.items ++ item ∷ []) }
+{
+    items.push(item)?;
+    Ok(())
 }
 
 // A block of a history, by its place.

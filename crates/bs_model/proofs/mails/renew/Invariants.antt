@@ -1,4 +1,4 @@
-use Rattle.std.proofs.Common.{◌≡◌, ◌≤◌, ◌<◌, length, slice_get}
+use Rattle.std.proofs.Common.{◌≡◌, length, slice_get}
 use Rattle.bs_model.proofs.Renewal.{Renewing}
 use Rattle.bs_model.specs.Mails.{history_at}
 use Rattle.bs_model.proofs.mails.renew.Given as goal

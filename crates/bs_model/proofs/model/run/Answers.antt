@@ -1,25 +1,29 @@
-use Rattle.std.proofs.Common.{◌≡◌, ◌+◌, List, [], ◌∷◌, map, length, refl, sym, ap, subst, ◌∙◌, arith}
+use Rattle.std.proofs.Common.{◌≡◌, ◌≤◌, [], ◌∷◌, map, length, refl, sym, subst, ◌∙◌, arith}
 use Rattle.bs_log.specs.Collected.{traps_from, waits_from}
 use Rattle.bs_log.specs.declared.outcome.Outcome.{Outcome}
 use Rattle.bs_report.specs.Report.{IsReportable}
 use Rattle.bs_semantics.specs.Serial.{IsSerial, timed}
-use Rattle.bs_model.specs.declared.book.Begun.{Begun}
 use Rattle.bs_model.specs.Book.{keyed}
 use Rattle.bs_times.specs.Machine.{machine_of}
 use Rattle.bs_model.specs.Next.{IsLeast}
 use Rattle.bs_model.proofs.Choosing.{chares_here}
+use Rattle.bs_model.specs.Clean.{AreClean}
+use Rattle.bs_model.specs.Stop.{HasCleanRound}
+use Rattle.bs_model.proofs.Closing.{are_clean, has_clean_round}
 use Rattle.bs_model.proofs.Counts.{few}
-use Rattle.bs_model.proofs.Ending.{is_serial, is_reportable, if_given}
+use Rattle.bs_model.proofs.Ending.{none_enabled, is_serial, is_reportable, if_given, if_denied, on_given}
+use Rattle.bs_model.proofs.Running.{reached}
 use Rattle.bs_model.proofs.model.run.Goals as goal
 
 pub loop-turn-init : goal.loop-turn-init
-loop-turn-init c = ([], c.in_ok-state.ensures, refl)
+loop-turn-init c = ([], c.in_ok-state.ensures.begun, refl)
 
 pub loop-turn-preserved : goal.loop-turn-preserved
 loop-turn-preserved c =
     let inv = c.loop-turn.invariant in
-    let b = c.in_ok-state-in-Some.ensures inv.0 inv.1 in
     let count = inv.2 in
+    let few : length inv.0 ≤ c.args.limit = omega (arith, count, c.loop-turn-test.true) in
+    let b = c.in_ok-state-in-Some.ensures.follows inv.0 inv.1 few in
     (b.0 ∷ inv.0, b.1, omega (arith, count))
 
 pub next-requires-clause-chares : goal.next-requires-clause-chares
@@ -27,8 +31,8 @@ next-requires-clause-chares c =
     let inv = c.loop-turn.invariant in
     chares_here c.args.accepted.now.program c.args.limit c.args.machine.now inv.0 c.loop-turn.state inv.1 ∙ sym c.requires.chares
 
-pub outcome-requires : goal.outcome-requires
-outcome-requires c =
+pub outcome-requires-clause-chares : goal.outcome-requires-clause-chares
+outcome-requires-clause-chares c =
     let inv = c.loop-turn.invariant in
     let count = chares_here c.args.accepted.now.program c.args.limit c.args.machine.now inv.0 c.loop-turn.state inv.1 in
     let bests = inv.1.bests.count in
@@ -42,9 +46,10 @@ returns-in-None-clause-serial c =
     let s = c.loop-turn.state in
     let inv = c.loop-turn.invariant in
     let none = subst (IsLeast m s.ends.items s.bests.items) c.in-None.is c.next.ensures in
+    let clean = has_clean_round p limit m inv.0 s inv.1 (none_enabled p limit m inv.0 s inv.1 none) in
     if_given (λ (o : Outcome). o.rows ≡ map (λ e. e.1.row) (keyed s.book)) (λ (o : Outcome). o.traps ≡ traps_from 0 s.histories.items) (λ (o : Outcome). o.waits ≡ waits_from 0 s.histories.items)
-    (λ (o : Outcome). IsSerial p limit (machine_of m) (timed o)) (λ o rows traps waits. is_serial p limit m c.requires.clean.0 c.requires.clean.1 c.requires.limit.1 inv.0 s inv.1 o rows traps waits none)
-    c.outcome.result c.outcome.ensures.rows c.outcome.ensures.traps c.outcome.ensures.waits
+    (λ (o : Outcome). IsSerial p limit (machine_of m) (timed o)) (AreClean limit s.histories.items) (λ o rows traps waits are. is_serial p limit m (clean are).0 (clean are).1 c.requires.limit.1 inv.0 s inv.1 o rows traps waits none)
+    c.outcome.result c.outcome.ensures.rows c.outcome.ensures.traps c.outcome.ensures.waits c.outcome.ensures.clean
 
 pub returns-in-None-clause-reportable : goal.returns-in-None-clause-reportable
 returns-in-None-clause-reportable c =
@@ -53,13 +58,37 @@ returns-in-None-clause-reportable c =
     let m = c.args.machine.now in
     let s = c.loop-turn.state in
     let inv = c.loop-turn.invariant in
+    let none = subst (IsLeast m s.ends.items s.bests.items) c.in-None.is c.next.ensures in
+    let clean = has_clean_round p limit m inv.0 s inv.1 (none_enabled p limit m inv.0 s inv.1 none) in
     if_given (λ (o : Outcome). o.rows ≡ map (λ e. e.1.row) (keyed s.book)) (λ (o : Outcome). o.traps ≡ traps_from 0 s.histories.items) (λ (o : Outcome). o.waits ≡ waits_from 0 s.histories.items)
-    IsReportable (λ o rows traps waits. is_reportable p limit m c.requires.clean.0 c.requires.clean.1 c.requires.limit.1 inv.0 s inv.1 o rows traps waits)
-    c.outcome.result c.outcome.ensures.rows c.outcome.ensures.traps c.outcome.ensures.waits
+    IsReportable (AreClean limit s.histories.items) (λ o rows traps waits are. is_reportable p limit m (clean are).0 (clean are).1 c.requires.limit.1 inv.0 s inv.1 o rows traps waits)
+    c.outcome.result c.outcome.ensures.rows c.outcome.ensures.traps c.outcome.ensures.waits c.outcome.ensures.clean
 
-pub unreachable-requires : goal.unreachable-requires
-unreachable-requires c =
+pub returns-in-None-clause-clean : goal.returns-in-None-clause-clean
+returns-in-None-clause-clean c =
+    let p = c.args.accepted.now.program in
+    let limit = c.args.limit in
+    let m = c.args.machine.now in
+    let s = c.loop-turn.state in
     let inv = c.loop-turn.invariant in
-    let low = few c.args.accepted.now.program c.args.limit (machine_of c.args.machine.now) c.requires.clean.0 c.requires.clean.1 inv.0 inv.1.reached in
+    let none = subst (IsLeast m s.ends.items s.bests.items) c.in-None.is c.next.ensures in
+    on_given (AreClean limit s.histories.items) (HasCleanRound p limit) (has_clean_round p limit m inv.0 s inv.1 (none_enabled p limit m inv.0 s inv.1 none)) c.outcome.result c.outcome.ensures.clean
+
+pub returns-in-None-clause-stopped : goal.returns-in-None-clause-stopped
+returns-in-None-clause-stopped c =
+    let p = c.args.accepted.now.program in
+    let limit = c.args.limit in
+    let m = c.args.machine.now in
+    let s = c.loop-turn.state in
+    let inv = c.loop-turn.invariant in
+    if_denied (AreClean limit s.histories.items) (HasCleanRound p limit) (are_clean p limit m inv.0 s inv.1) c.outcome.result c.outcome.ensures.stopped
+
+pub returns-clause-stopped : goal.returns-clause-stopped
+returns-clause-stopped c h =
+    let p = c.args.accepted.now.program in
+    let limit = c.args.limit in
+    let m = machine_of c.args.machine.now in
+    let inv = c.loop-turn.invariant in
+    let low = few p limit m h.0 h.1 inv.0 (reached p limit m h.0 h.1 inv.0 inv.1.started) in
     let count = inv.2 in
     omega (arith, low, count, c.loop-turn-test.false)

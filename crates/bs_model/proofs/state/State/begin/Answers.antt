@@ -1,4 +1,5 @@
-use Rattle.std.proofs.Common.{◌<◌, ◌≤◌, ◌≡◌, ◌+◌, ℕ, [], List, Option, Some, length, get_or, refl, sym, ap, subst, ◌∙◌, arith}
+use Rattle.std.proofs.Common.{◌<◌, ◌≤◌, ◌≡◌, ◌+◌, ℕ, [], List, Option, Some, get_or, sym, ap, subst, ◌∙◌, arith}
+use Rattle.std.proofs.lemmas.Result.{err_from_is_err_and}
 use Rattle.bs_log.specs.Size.{size}
 use Rattle.bs_log.specs.declared.history.Message.{Message}
 use Rattle.bs_log.specs.declared.history.History.{History}
@@ -8,16 +9,19 @@ use Rattle.bs_model.specs.declared.candidates.Best.{Best}
 use Rattle.bs_model.specs.Next.{IsBest, best_among}
 use Rattle.bs_model.specs.Ready.{candidate_in}
 use Rattle.bs_model.proofs.Beginning.{first_short, all_zero, follows_none}
+use Rattle.bs_model.proofs.Denying.{denies_also}
 use Rattle.bs_model.proofs.Pushing.{Pushed, pushed_more}
 use Rattle.bs_model.proofs.state.State.begin.Goals as goal
 
-pub take-requires-clause-short : goal.take-requires-clause-short
-take-requires-clause-short c =
+pub returns-in_err-history-clause-stopped : goal.returns-in_err-history-clause-stopped
+returns-in_err-history-clause-stopped c =
     let p = c.args.accepted.now.program in
     let limit = c.args.limit in
     let k = c.loop-chare.chare in
     let lt : k < p.chares = omega (arith, c.loop-chare-test.true, c.chares-chares.ensures) in
-    subst (λ (mail : List Message). size (history p limit k (lookup mail)) ≤ limit) (sym c.new-mail.ensures) (first_short p limit c.requires.clean.0 c.requires.clean.1 k lt)
+    let given = err_from_is_err_and c.from_residual.result c.from_residual.ensures.1 in
+    rw (given.1, given.2)
+    (denies_also _ _ (λ h. subst (λ (mail : List Message). size (history p limit k (lookup mail)) ≤ limit) (sym c.new-mail.ensures) (first_short p limit h.0 h.1 k lt)) c.in_err-history.field-0.0 c.in_err-history.ensures.stopped)
 
 pub loop-chare-preserved : goal.loop-chare-preserved
 loop-chare-preserved c =
@@ -26,19 +30,19 @@ loop-chare-preserved c =
     let m = c.args.machine.now in
     let book = c.new-book.result in
     let k = c.loop-chare.chare in
-    let history_is = c.in_ok-history.ensures ∙ ap (λ (mail : List Message). history p limit k (lookup mail)) c.new-mail.ensures in
+    let history_is = c.in_ok-history.ensures.taken ∙ ap (λ (mail : List Message). history p limit k (lookup mail)) c.new-mail.ensures in
     let P = λ (c' : ℕ) (o : Option (List Message)). o ≡ Some [] in
     let Q = λ (c' : ℕ) (o : Option History). o ≡ Some (history p limit c' (lookup [])) in
     let R = λ (c' : ℕ) (o : Option (Option Best)). best_among m book c' (Some (history p limit c' (lookup []))) o in
     record {
-      mails = subst (λ xs. Pushed P (k + 1) xs) (sym c.in_ok-push-3.ensures.items) (pushed_more P k c.loop-chare.mails.items c.new-mail.result c.loop-chare.invariant.mails (ap (λ mail. Some mail) c.new-mail.ensures));
-      histories = subst (λ xs. Pushed Q (k + 1) xs) (sym c.in_ok-push-2.ensures.items) (pushed_more Q k c.loop-chare.histories.items c.in_ok-history.history c.loop-chare.invariant.histories (ap (λ h. Some h) history_is));
-      bests = subst (λ xs. Pushed R (k + 1) xs) (sym c.in_ok-push.ensures.items) (pushed_more R k c.loop-chare.bests.items c.in_ok-best_block.field-0 c.loop-chare.invariant.bests
-          (subst (λ blocks. IsBest (candidate_in m book k) blocks c.in_ok-best_block.field-0) (c.as_slice.ensures ∙ ap (λ (h : History). h.blocks) history_is) c.in_ok-best_block.ensures));
+      mails = subst (λ xs. Pushed P (k + 1) xs) (sym c.in_ok-push-3.ensures) (pushed_more P k c.loop-chare.mails.items c.new-mail.result c.loop-chare.invariant.mails (ap (λ mail. Some mail) c.new-mail.ensures));
+      histories = subst (λ xs. Pushed Q (k + 1) xs) (sym c.in_ok-push-2.ensures) (pushed_more Q k c.loop-chare.histories.items c.in_ok-history.history c.loop-chare.invariant.histories (ap (λ h. Some h) history_is));
+      bests = subst (λ xs. Pushed R (k + 1) xs) (sym c.in_ok-push.ensures) (pushed_more R k c.loop-chare.bests.items c.in_ok-best.best c.loop-chare.invariant.bests
+          (subst (λ blocks. IsBest (candidate_in m book k) blocks c.in_ok-best.best) (c.as_slice.ensures ∙ ap (λ (h : History). h.blocks) history_is) c.in_ok-best.ensures));
     }
 
-pub returns : goal.returns
-returns c =
+pub returns-clause-begun : goal.returns-clause-begun
+returns-clause-begun c =
     let p = c.args.accepted.now.program in
     let limit = c.args.limit in
     let m = c.args.machine.now in

@@ -1,5 +1,6 @@
-use Rattle.std.proofs.Common.{◌≡◌, ◌≤◌, ◌<◌, ◌+◌, ◌^◌, ℕ, Bool, true, false, List, ◌∷◌, Some, length, slice_get, slice_set, refl, sym, ap, subst, ◌∙◌, arith}
-use Rattle.std.proofs.lemmas.List.{with_items_is, length-set}
+use Rattle.std.proofs.Common.{◌≡◌, ◌≤◌, ◌+◌, ◌^◌, Bool, List, ◌∷◌, length, slice_get, slice_set, refl, sym, ap, subst, ◌∙◌, arith}
+use Rattle.std.proofs.lemmas.List.{with_items_is}
+use Rattle.std.proofs.lemmas.Result.{err_from_is_err_and}
 use Rattle.bs_log.specs.declared.history.Block.{Block}
 use Rattle.bs_log.specs.declared.history.Message.{Message}
 use Rattle.bs_log.specs.declared.history.History.{History}
@@ -8,14 +9,14 @@ use Rattle.bs_semantics.specs.Run.{history}
 use Rattle.bs_semantics.specs.Rounds.{mail_to}
 use Rattle.bs_semantics.specs.Serial.{messages}
 use Rattle.bs_model.specs.Book.{keyed, put_key}
-use Rattle.bs_model.specs.Mails.{AreDelivered, AreHistories, AreKept, AreShallow, AreShort, CanDeliver, history_at}
+use Rattle.bs_model.specs.Mails.{AreDelivered, AreFor, AreHistories, AreKept, AreShallow, AreShort, CanDeliver, history_at}
 use Rattle.bs_model.specs.Next.{AreBest, best_at}
 use Rattle.bs_model.specs.State.{begun_of}
 use Rattle.bs_model.proofs.Choosing.{chare_low, chares_here, home_is}
+use Rattle.bs_model.proofs.Denying.{denies_also}
 use Rattle.bs_model.proofs.Entries.{key_of}
 use Rattle.bs_model.proofs.Places.{count_numbers}
-use Rattle.bs_model.proofs.Following.{now, reached_now, block_is, place_low, cost_now, start_early, processor_low, delivers_now, booked_now, bests_kept, follows_now, some_chare}
-use Rattle.bs_model.proofs.Stepping.{shallow, short, histories_kept}
+use Rattle.bs_model.proofs.Following.{now, block_is, place_low, cost_now, start_early, processor_low, targets_now, delivers_now, short_now, histories_now, shallow_now, booked_now, bests_kept, follows_now}
 use Rattle.bs_model.proofs.state.State.start.Goals as goal
 
 pub block_at-block-requires : goal.block_at-block-requires
@@ -23,8 +24,6 @@ block_at-block-requires c =
     let p = c.args.accepted.now.program in
     let limit = c.args.limit in
     let m = c.args.machine.now in
-    let n = c.requires.clean.0 in
-    let clean = c.requires.clean.1 in
     let small = c.requires.limit.1 in
     let same = c.requires.chares in
     let s = c.args.self in
@@ -32,15 +31,14 @@ block_at-block-requires c =
     let least = c.requires.least in
     let bs = c.requires.follows.0 in
     let f = c.requires.follows.1 in
-    place_low p limit m n clean small same bs s f nx least c.index.result.now c.index.ensures
+    let few = c.requires.follows.2 in
+    place_low p limit m small same bs s f few nx least c.index.result.now c.index.ensures
 
 pub begin-requires-clause-cost : goal.begin-requires-clause-cost
 begin-requires-clause-cost c =
     let p = c.args.accepted.now.program in
     let limit = c.args.limit in
     let m = c.args.machine.now in
-    let n = c.requires.clean.0 in
-    let clean = c.requires.clean.1 in
     let small = c.requires.limit.1 in
     let same = c.requires.chares in
     let s = c.args.self in
@@ -48,16 +46,15 @@ begin-requires-clause-cost c =
     let least = c.requires.least in
     let bs = c.requires.follows.0 in
     let f = c.requires.follows.1 in
-    let x_is = block_is p limit m n clean small same bs s f nx least c.index.result.now c.block_at-block.result.now c.index.ensures c.block_at-block.ensures in
-    subst (λ (x : Block). (1 ≤ x.cost) × (x.cost ≤ 2 ^ 32)) (sym x_is) (cost_now p limit m n clean small same bs s f nx least)
+    let few = c.requires.follows.2 in
+    let x_is = block_is p limit m small same bs s f few nx least c.index.result.now c.block_at-block.result.now c.index.ensures c.block_at-block.ensures in
+    subst (λ (x : Block). (1 ≤ x.cost) × (x.cost ≤ 2 ^ 32)) (sym x_is) (cost_now p limit m small same bs s f few nx least)
 
 pub begin-requires-clause-early : goal.begin-requires-clause-early
 begin-requires-clause-early c =
     let p = c.args.accepted.now.program in
     let limit = c.args.limit in
     let m = c.args.machine.now in
-    let n = c.requires.clean.0 in
-    let clean = c.requires.clean.1 in
     let small = c.requires.limit.1 in
     let same = c.requires.chares in
     let s = c.args.self in
@@ -65,15 +62,14 @@ begin-requires-clause-early c =
     let least = c.requires.least in
     let bs = c.requires.follows.0 in
     let f = c.requires.follows.1 in
-    start_early p limit m n clean small same bs s f nx least
+    let few = c.requires.follows.2 in
+    start_early p limit m small same bs s f few nx least
 
 pub index_mut-requires : goal.index_mut-requires
 index_mut-requires c =
     let p = c.args.accepted.now.program in
     let limit = c.args.limit in
     let m = c.args.machine.now in
-    let n = c.requires.clean.0 in
-    let clean = c.requires.clean.1 in
     let small = c.requires.limit.1 in
     let same = c.requires.chares in
     let s = c.args.self in
@@ -81,15 +77,14 @@ index_mut-requires c =
     let least = c.requires.least in
     let bs = c.requires.follows.0 in
     let f = c.requires.follows.1 in
-    let low = processor_low p limit m n clean small same bs s f nx least in omega (arith, low, s.ends.ok.0)
+    let few = c.requires.follows.2 in
+    let low = processor_low p limit m small same bs s f few nx least in omega (arith, low, s.ends.ok.0)
 
 pub deliver-requires : goal.deliver-requires
 deliver-requires c =
     let p = c.args.accepted.now.program in
     let limit = c.args.limit in
     let m = c.args.machine.now in
-    let n = c.requires.clean.0 in
-    let clean = c.requires.clean.1 in
     let small = c.requires.limit.1 in
     let same = c.requires.chares in
     let s = c.args.self in
@@ -97,18 +92,39 @@ deliver-requires c =
     let least = c.requires.least in
     let bs = c.requires.follows.0 in
     let f = c.requires.follows.1 in
-    let x_is = block_is p limit m n clean small same bs s f nx least c.index.result.now c.block_at-block.result.now c.index.ensures c.block_at-block.ensures in
-    let sent_is : c.in_ok-messages.messages.items ≡ (now p limit m n clean small same bs s f nx least).block.sends = c.in_ok-messages.ensures ∙ (c.as_slice.ensures ∙ ap (λ (x : Block). x.sends) x_is) in
-    let can : CanDeliver s.mails.items c.in_ok-messages.messages.items = subst (λ ms. CanDeliver s.mails.items ms) (sym sent_is) (delivers_now p limit m n clean small same bs s f nx least) in
-    subst (λ old. CanDeliver old c.in_ok-messages.messages.items) (sym c.deref_mut.ensures.value) can
+    let few = c.requires.follows.2 in
+    let x_is = block_is p limit m small same bs s f few nx least c.index.result.now c.block_at-block.result.now c.index.ensures c.block_at-block.ensures in
+    let sent_is : c.in_ok-messages.messages.items ≡ (now p limit m small same bs s f few nx least).block.sends = c.in_ok-messages.ensures ∙ (c.as_slice.ensures ∙ ap (λ (x : Block). x.sends) x_is) in
+    let are : AreFor (length s.mails.items) c.in_ok-messages.messages.items = subst (λ ms. AreFor (length s.mails.items) ms) (sym sent_is) (targets_now p limit m small same bs s f few nx least) in
+    subst (λ (old : List (List Message)). AreFor (length old) c.in_ok-messages.messages.items) (sym c.deref_mut.ensures.value) are
+
+pub returns-in_err-changed-clause-stopped : goal.returns-in_err-changed-clause-stopped
+returns-in_err-changed-clause-stopped c =
+    let p = c.args.accepted.now.program in
+    let limit = c.args.limit in
+    let m = c.args.machine.now in
+    let small = c.requires.limit.1 in
+    let same = c.requires.chares in
+    let s = c.args.self in
+    let nx = c.args.next in
+    let least = c.requires.least in
+    let bs = c.requires.follows.0 in
+    let f = c.requires.follows.1 in
+    let few = c.requires.follows.2 in
+    let x_is = block_is p limit m small same bs s f few nx least c.index.result.now c.block_at-block.result.now c.index.ensures c.block_at-block.ensures in
+    let sent_is : c.in_ok-messages.messages.items ≡ (now p limit m small same bs s f few nx least).block.sends = c.in_ok-messages.ensures ∙ (c.as_slice.ensures ∙ ap (λ (x : Block). x.sends) x_is) in
+    let given = err_from_is_err_and c.from_residual-in_err-changed.result c.from_residual-in_err-changed.ensures.1 in
+    rw (given.1, given.2)
+    (denies_also _ _
+    (λ h. subst (λ old. CanDeliver limit old c.in_ok-messages.messages.items) (sym c.deref_mut.ensures.value)
+    (subst (λ ms. CanDeliver limit s.mails.items ms) (sym sent_is) (delivers_now p limit m small same bs s f few nx least h)))
+    c.in_err-changed.field-0.0 c.in_err-changed.ensures.stopped)
 
 pub renew-requires-clause-lengths : goal.renew-requires-clause-lengths
 renew-requires-clause-lengths c =
     let p = c.args.accepted.now.program in
     let limit = c.args.limit in
     let m = c.args.machine.now in
-    let n = c.requires.clean.0 in
-    let clean = c.requires.clean.1 in
     let small = c.requires.limit.1 in
     let same = c.requires.chares in
     let s = c.args.self in
@@ -116,11 +132,15 @@ renew-requires-clause-lengths c =
     let least = c.requires.least in
     let bs = c.requires.follows.0 in
     let f = c.requires.follows.1 in
-    let x_is = block_is p limit m n clean small same bs s f nx least c.index.result.now c.block_at-block.result.now c.index.ensures c.block_at-block.ensures in
-    let sent_is : c.in_ok-messages.messages.items ≡ (now p limit m n clean small same bs s f nx least).block.sends = c.in_ok-messages.ensures ∙ (c.as_slice.ensures ∙ ap (λ (x : Block). x.sends) x_is) in
+    let few = c.requires.follows.2 in
+    let x_is = block_is p limit m small same bs s f few nx least c.index.result.now c.block_at-block.result.now c.index.ensures c.block_at-block.ensures in
+    let sent_is : c.in_ok-messages.messages.items ≡ (now p limit m small same bs s f few nx least).block.sends = c.in_ok-messages.ensures ∙ (c.as_slice.ensures ∙ ap (λ (x : Block). x.sends) x_is) in
     let old_mails = c.deref_mut.ensures.value in
-    let delivered : AreDelivered s.mails.items (now p limit m n clean small same bs s f nx least).block.sends c.deliver.new.mails =
-    subst (λ old. AreDelivered old (now p limit m n clean small same bs s f nx least).block.sends c.deliver.new.mails) old_mails
+    let can : CanDeliver limit s.mails.items (now p limit m small same bs s f few nx least).block.sends =
+    subst (λ old. CanDeliver limit old (now p limit m small same bs s f few nx least).block.sends) old_mails
+    (subst (λ ms. CanDeliver limit c.deref_mut.result.now ms) sent_is c.in_ok-changed.ensures.given) in
+    let delivered : AreDelivered s.mails.items (now p limit m small same bs s f few nx least).block.sends c.deliver.new.mails =
+    subst (λ old. AreDelivered old (now p limit m small same bs s f few nx least).block.sends c.deliver.new.mails) old_mails
     (subst (λ ms. AreDelivered c.deref_mut.result.now ms c.deliver.new.mails) sent_is c.in_ok-changed.ensures.delivered) in
     let kept : AreKept s.mails.items c.in_ok-changed.changed.items c.deliver.new.mails = subst (λ old. AreKept old c.in_ok-changed.changed.items c.deliver.new.mails) old_mails c.in_ok-changed.ensures.heard in
     let new_mails : c.deref.result.now ≡ c.deliver.new.mails = c.deref.ensures.value ∙ with_items_is s.mails c.deliver.new.mails (delivered.count ∙ sym s.mails.ok.0) in
@@ -138,8 +158,6 @@ renew-requires-clause-shallow c =
     let p = c.args.accepted.now.program in
     let limit = c.args.limit in
     let m = c.args.machine.now in
-    let n = c.requires.clean.0 in
-    let clean = c.requires.clean.1 in
     let small = c.requires.limit.1 in
     let same = c.requires.chares in
     let s = c.args.self in
@@ -147,23 +165,25 @@ renew-requires-clause-shallow c =
     let least = c.requires.least in
     let bs = c.requires.follows.0 in
     let f = c.requires.follows.1 in
-    let x_is = block_is p limit m n clean small same bs s f nx least c.index.result.now c.block_at-block.result.now c.index.ensures c.block_at-block.ensures in
-    let sent_is : c.in_ok-messages.messages.items ≡ (now p limit m n clean small same bs s f nx least).block.sends = c.in_ok-messages.ensures ∙ (c.as_slice.ensures ∙ ap (λ (x : Block). x.sends) x_is) in
+    let few = c.requires.follows.2 in
+    let x_is = block_is p limit m small same bs s f few nx least c.index.result.now c.block_at-block.result.now c.index.ensures c.block_at-block.ensures in
+    let sent_is : c.in_ok-messages.messages.items ≡ (now p limit m small same bs s f few nx least).block.sends = c.in_ok-messages.ensures ∙ (c.as_slice.ensures ∙ ap (λ (x : Block). x.sends) x_is) in
     let old_mails = c.deref_mut.ensures.value in
-    let delivered : AreDelivered s.mails.items (now p limit m n clean small same bs s f nx least).block.sends c.deliver.new.mails =
-    subst (λ old. AreDelivered old (now p limit m n clean small same bs s f nx least).block.sends c.deliver.new.mails) old_mails
+    let can : CanDeliver limit s.mails.items (now p limit m small same bs s f few nx least).block.sends =
+    subst (λ old. CanDeliver limit old (now p limit m small same bs s f few nx least).block.sends) old_mails
+    (subst (λ ms. CanDeliver limit c.deref_mut.result.now ms) sent_is c.in_ok-changed.ensures.given) in
+    let delivered : AreDelivered s.mails.items (now p limit m small same bs s f few nx least).block.sends c.deliver.new.mails =
+    subst (λ old. AreDelivered old (now p limit m small same bs s f few nx least).block.sends c.deliver.new.mails) old_mails
     (subst (λ ms. AreDelivered c.deref_mut.result.now ms c.deliver.new.mails) sent_is c.in_ok-changed.ensures.delivered) in
     let kept : AreKept s.mails.items c.in_ok-changed.changed.items c.deliver.new.mails = subst (λ old. AreKept old c.in_ok-changed.changed.items c.deliver.new.mails) old_mails c.in_ok-changed.ensures.heard in
     let new_mails : c.deref.result.now ≡ c.deliver.new.mails = c.deref.ensures.value ∙ with_items_is s.mails c.deliver.new.mails (delivered.count ∙ sym s.mails.ok.0) in
-    subst AreShallow (sym new_mails) (shallow p limit m n clean bs (now p limit m n clean small same bs s f nx least) (reached_now p limit m n clean small same bs s f nx least) s.mails.items f.chares (some_chare p limit m n clean small same bs s f nx least) f.mails c.deliver.new.mails delivered small)
+    subst AreShallow (sym new_mails) (shallow_now p limit m small same bs s f few nx least can c.deliver.new.mails delivered)
 
-pub renew-requires-clause-short : goal.renew-requires-clause-short
-renew-requires-clause-short c =
+pub returns-in_err-renew-clause-stopped : goal.returns-in_err-renew-clause-stopped
+returns-in_err-renew-clause-stopped c =
     let p = c.args.accepted.now.program in
     let limit = c.args.limit in
     let m = c.args.machine.now in
-    let n = c.requires.clean.0 in
-    let clean = c.requires.clean.1 in
     let small = c.requires.limit.1 in
     let same = c.requires.chares in
     let s = c.args.self in
@@ -171,23 +191,27 @@ renew-requires-clause-short c =
     let least = c.requires.least in
     let bs = c.requires.follows.0 in
     let f = c.requires.follows.1 in
-    let x_is = block_is p limit m n clean small same bs s f nx least c.index.result.now c.block_at-block.result.now c.index.ensures c.block_at-block.ensures in
-    let sent_is : c.in_ok-messages.messages.items ≡ (now p limit m n clean small same bs s f nx least).block.sends = c.in_ok-messages.ensures ∙ (c.as_slice.ensures ∙ ap (λ (x : Block). x.sends) x_is) in
+    let few = c.requires.follows.2 in
+    let x_is = block_is p limit m small same bs s f few nx least c.index.result.now c.block_at-block.result.now c.index.ensures c.block_at-block.ensures in
+    let sent_is : c.in_ok-messages.messages.items ≡ (now p limit m small same bs s f few nx least).block.sends = c.in_ok-messages.ensures ∙ (c.as_slice.ensures ∙ ap (λ (x : Block). x.sends) x_is) in
     let old_mails = c.deref_mut.ensures.value in
-    let delivered : AreDelivered s.mails.items (now p limit m n clean small same bs s f nx least).block.sends c.deliver.new.mails =
-    subst (λ old. AreDelivered old (now p limit m n clean small same bs s f nx least).block.sends c.deliver.new.mails) old_mails
+    let can : CanDeliver limit s.mails.items (now p limit m small same bs s f few nx least).block.sends =
+    subst (λ old. CanDeliver limit old (now p limit m small same bs s f few nx least).block.sends) old_mails
+    (subst (λ ms. CanDeliver limit c.deref_mut.result.now ms) sent_is c.in_ok-changed.ensures.given) in
+    let delivered : AreDelivered s.mails.items (now p limit m small same bs s f few nx least).block.sends c.deliver.new.mails =
+    subst (λ old. AreDelivered old (now p limit m small same bs s f few nx least).block.sends c.deliver.new.mails) old_mails
     (subst (λ ms. AreDelivered c.deref_mut.result.now ms c.deliver.new.mails) sent_is c.in_ok-changed.ensures.delivered) in
     let kept : AreKept s.mails.items c.in_ok-changed.changed.items c.deliver.new.mails = subst (λ old. AreKept old c.in_ok-changed.changed.items c.deliver.new.mails) old_mails c.in_ok-changed.ensures.heard in
     let new_mails : c.deref.result.now ≡ c.deliver.new.mails = c.deref.ensures.value ∙ with_items_is s.mails c.deliver.new.mails (delivered.count ∙ sym s.mails.ok.0) in
-    subst (AreShort p limit) (sym new_mails) (short p limit m n clean bs (now p limit m n clean small same bs s f nx least) (reached_now p limit m n clean small same bs s f nx least) s.mails.items f.chares (some_chare p limit m n clean small same bs s f nx least) f.mails c.deliver.new.mails delivered)
+    let given = err_from_is_err_and c.from_residual-in_err-renew.result c.from_residual-in_err-renew.ensures.1 in
+    rw (given.1, given.2)
+    (denies_also _ _ (λ h. subst (AreShort p limit) (sym new_mails) (short_now p limit m small same bs s f few nx least c.deliver.new.mails delivered h)) c.in_err-renew.field-0.0 c.in_err-renew.ensures.stopped)
 
 pub renew-requires-clause-kept : goal.renew-requires-clause-kept
 renew-requires-clause-kept c =
     let p = c.args.accepted.now.program in
     let limit = c.args.limit in
     let m = c.args.machine.now in
-    let n = c.requires.clean.0 in
-    let clean = c.requires.clean.1 in
     let small = c.requires.limit.1 in
     let same = c.requires.chares in
     let s = c.args.self in
@@ -195,16 +219,20 @@ renew-requires-clause-kept c =
     let least = c.requires.least in
     let bs = c.requires.follows.0 in
     let f = c.requires.follows.1 in
-    let x_is = block_is p limit m n clean small same bs s f nx least c.index.result.now c.block_at-block.result.now c.index.ensures c.block_at-block.ensures in
-    let sent_is : c.in_ok-messages.messages.items ≡ (now p limit m n clean small same bs s f nx least).block.sends = c.in_ok-messages.ensures ∙ (c.as_slice.ensures ∙ ap (λ (x : Block). x.sends) x_is) in
+    let few = c.requires.follows.2 in
+    let x_is = block_is p limit m small same bs s f few nx least c.index.result.now c.block_at-block.result.now c.index.ensures c.block_at-block.ensures in
+    let sent_is : c.in_ok-messages.messages.items ≡ (now p limit m small same bs s f few nx least).block.sends = c.in_ok-messages.ensures ∙ (c.as_slice.ensures ∙ ap (λ (x : Block). x.sends) x_is) in
     let old_mails = c.deref_mut.ensures.value in
-    let delivered : AreDelivered s.mails.items (now p limit m n clean small same bs s f nx least).block.sends c.deliver.new.mails =
-    subst (λ old. AreDelivered old (now p limit m n clean small same bs s f nx least).block.sends c.deliver.new.mails) old_mails
+    let can : CanDeliver limit s.mails.items (now p limit m small same bs s f few nx least).block.sends =
+    subst (λ old. CanDeliver limit old (now p limit m small same bs s f few nx least).block.sends) old_mails
+    (subst (λ ms. CanDeliver limit c.deref_mut.result.now ms) sent_is c.in_ok-changed.ensures.given) in
+    let delivered : AreDelivered s.mails.items (now p limit m small same bs s f few nx least).block.sends c.deliver.new.mails =
+    subst (λ old. AreDelivered old (now p limit m small same bs s f few nx least).block.sends c.deliver.new.mails) old_mails
     (subst (λ ms. AreDelivered c.deref_mut.result.now ms c.deliver.new.mails) sent_is c.in_ok-changed.ensures.delivered) in
     let kept : AreKept s.mails.items c.in_ok-changed.changed.items c.deliver.new.mails = subst (λ old. AreKept old c.in_ok-changed.changed.items c.deliver.new.mails) old_mails c.in_ok-changed.ensures.heard in
     let new_mails : c.deref.result.now ≡ c.deliver.new.mails = c.deref.ensures.value ∙ with_items_is s.mails c.deliver.new.mails (delivered.count ∙ sym s.mails.ok.0) in
     λ c' e. ap (λ (hs : List History). slice_get hs c') c.deref_mut-2.ensures.value
-    ∙ (histories_kept p limit m n clean bs (now p limit m n clean small same bs s f nx least) (reached_now p limit m n clean small same bs s f nx least) s.mails.items f.chares (some_chare p limit m n clean small same bs s f nx least) f.mails c.deliver.new.mails delivered s.histories.items c.in_ok-changed.changed.items f.histories kept c' (ap (λ (xs : List Bool). slice_get xs c') (sym c.deref-2.ensures.value) ∙ e)
+    ∙ (histories_now p limit m small same bs s f few nx least c.deliver.new.mails c.in_ok-changed.changed.items delivered kept c' (ap (λ (xs : List Bool). slice_get xs c') (sym c.deref-2.ensures.value) ∙ e)
     ∙ ap (λ ms. history_at p limit ms c') (sym new_mails))
 
 pub index_mut-requires-2 : goal.index_mut-requires-2
@@ -212,8 +240,6 @@ index_mut-requires-2 c =
     let p = c.args.accepted.now.program in
     let limit = c.args.limit in
     let m = c.args.machine.now in
-    let n = c.requires.clean.0 in
-    let clean = c.requires.clean.1 in
     let small = c.requires.limit.1 in
     let same = c.requires.chares in
     let s = c.args.self in
@@ -221,11 +247,15 @@ index_mut-requires-2 c =
     let least = c.requires.least in
     let bs = c.requires.follows.0 in
     let f = c.requires.follows.1 in
-    let x_is = block_is p limit m n clean small same bs s f nx least c.index.result.now c.block_at-block.result.now c.index.ensures c.block_at-block.ensures in
-    let sent_is : c.in_ok-messages.messages.items ≡ (now p limit m n clean small same bs s f nx least).block.sends = c.in_ok-messages.ensures ∙ (c.as_slice.ensures ∙ ap (λ (x : Block). x.sends) x_is) in
+    let few = c.requires.follows.2 in
+    let x_is = block_is p limit m small same bs s f few nx least c.index.result.now c.block_at-block.result.now c.index.ensures c.block_at-block.ensures in
+    let sent_is : c.in_ok-messages.messages.items ≡ (now p limit m small same bs s f few nx least).block.sends = c.in_ok-messages.ensures ∙ (c.as_slice.ensures ∙ ap (λ (x : Block). x.sends) x_is) in
     let old_mails = c.deref_mut.ensures.value in
-    let delivered : AreDelivered s.mails.items (now p limit m n clean small same bs s f nx least).block.sends c.deliver.new.mails =
-    subst (λ old. AreDelivered old (now p limit m n clean small same bs s f nx least).block.sends c.deliver.new.mails) old_mails
+    let can : CanDeliver limit s.mails.items (now p limit m small same bs s f few nx least).block.sends =
+    subst (λ old. CanDeliver limit old (now p limit m small same bs s f few nx least).block.sends) old_mails
+    (subst (λ ms. CanDeliver limit c.deref_mut.result.now ms) sent_is c.in_ok-changed.ensures.given) in
+    let delivered : AreDelivered s.mails.items (now p limit m small same bs s f few nx least).block.sends c.deliver.new.mails =
+    subst (λ old. AreDelivered old (now p limit m small same bs s f few nx least).block.sends c.deliver.new.mails) old_mails
     (subst (λ ms. AreDelivered c.deref_mut.result.now ms c.deliver.new.mails) sent_is c.in_ok-changed.ensures.delivered) in
     let kept : AreKept s.mails.items c.in_ok-changed.changed.items c.deliver.new.mails = subst (λ old. AreKept old c.in_ok-changed.changed.items c.deliver.new.mails) old_mails c.in_ok-changed.ensures.heard in
     let new_mails : c.deref.result.now ≡ c.deliver.new.mails = c.deref.ensures.value ∙ with_items_is s.mails c.deliver.new.mails (delivered.count ∙ sym s.mails.ok.0) in
@@ -239,8 +269,6 @@ choose-requires-clause-booked c =
     let p = c.args.accepted.now.program in
     let limit = c.args.limit in
     let m = c.args.machine.now in
-    let n = c.requires.clean.0 in
-    let clean = c.requires.clean.1 in
     let small = c.requires.limit.1 in
     let same = c.requires.chares in
     let s = c.args.self in
@@ -248,18 +276,22 @@ choose-requires-clause-booked c =
     let least = c.requires.least in
     let bs = c.requires.follows.0 in
     let f = c.requires.follows.1 in
-    let x_is = block_is p limit m n clean small same bs s f nx least c.index.result.now c.block_at-block.result.now c.index.ensures c.block_at-block.ensures in
-    let begun_is : c.in_ok-begun.begun ≡ begun_of m (now p limit m n clean small same bs s f nx least) = c.in_ok-begun.ensures ∙ ap (λ (x : Block). begun_of m (record { chare = nx.chare; block = x; start = nx.start })) x_is in
-    let book_is : keyed c.put.new.self ≡ put_key (key_of (now p limit m n clean small same bs s f nx least)) (begun_of m (now p limit m n clean small same bs s f nx least)) (keyed s.book) = c.in_ok-put.ensures ∙ (λ i. put_key ((begun_is i).row.chare ∷ (x_is i).path.0) (begun_is i) (keyed s.book)) in
-    booked_now p limit m n clean small same bs s f nx least c.put.new.self book_is
+    let few = c.requires.follows.2 in
+    let x_is = block_is p limit m small same bs s f few nx least c.index.result.now c.block_at-block.result.now c.index.ensures c.block_at-block.ensures in
+    let begun_is : c.in_ok-begun.begun ≡ begun_of m (now p limit m small same bs s f few nx least) = c.in_ok-begun.ensures ∙ ap (λ (x : Block). begun_of m (record { chare = nx.chare; block = x; start = nx.start })) x_is in
+    let book_is : keyed c.put.new.self ≡ put_key (key_of (now p limit m small same bs s f few nx least)) (begun_of m (now p limit m small same bs s f few nx least)) (keyed s.book) = c.in_ok-put.ensures ∙ (λ i. put_key ((begun_is i).row.chare ∷ (x_is i).path.0) (begun_is i) (keyed s.book)) in
+    let sent_is : c.in_ok-messages.messages.items ≡ (now p limit m small same bs s f few nx least).block.sends = c.in_ok-messages.ensures ∙ (c.as_slice.ensures ∙ ap (λ (x : Block). x.sends) x_is) in
+    let old_mails = c.deref_mut.ensures.value in
+    let can : CanDeliver limit s.mails.items (now p limit m small same bs s f few nx least).block.sends =
+    subst (λ old. CanDeliver limit old (now p limit m small same bs s f few nx least).block.sends) old_mails
+    (subst (λ ms. CanDeliver limit c.deref_mut.result.now ms) sent_is c.in_ok-changed.ensures.given) in
+    booked_now p limit m small same bs s f few nx least can c.put.new.self book_is
 
 pub choose-requires-clause-kept : goal.choose-requires-clause-kept
 choose-requires-clause-kept c =
     let p = c.args.accepted.now.program in
     let limit = c.args.limit in
     let m = c.args.machine.now in
-    let n = c.requires.clean.0 in
-    let clean = c.requires.clean.1 in
     let small = c.requires.limit.1 in
     let same = c.requires.chares in
     let s = c.args.self in
@@ -267,58 +299,63 @@ choose-requires-clause-kept c =
     let least = c.requires.least in
     let bs = c.requires.follows.0 in
     let f = c.requires.follows.1 in
-    let x_is = block_is p limit m n clean small same bs s f nx least c.index.result.now c.block_at-block.result.now c.index.ensures c.block_at-block.ensures in
-    let begun_is : c.in_ok-begun.begun ≡ begun_of m (now p limit m n clean small same bs s f nx least) = c.in_ok-begun.ensures ∙ ap (λ (x : Block). begun_of m (record { chare = nx.chare; block = x; start = nx.start })) x_is in
-    let book_is : keyed c.put.new.self ≡ put_key (key_of (now p limit m n clean small same bs s f nx least)) (begun_of m (now p limit m n clean small same bs s f nx least)) (keyed s.book) = c.in_ok-put.ensures ∙ (λ i. put_key ((begun_is i).row.chare ∷ (x_is i).path.0) (begun_is i) (keyed s.book)) in
-    let sent_is : c.in_ok-messages.messages.items ≡ (now p limit m n clean small same bs s f nx least).block.sends = c.in_ok-messages.ensures ∙ (c.as_slice.ensures ∙ ap (λ (x : Block). x.sends) x_is) in
+    let few = c.requires.follows.2 in
+    let x_is = block_is p limit m small same bs s f few nx least c.index.result.now c.block_at-block.result.now c.index.ensures c.block_at-block.ensures in
+    let begun_is : c.in_ok-begun.begun ≡ begun_of m (now p limit m small same bs s f few nx least) = c.in_ok-begun.ensures ∙ ap (λ (x : Block). begun_of m (record { chare = nx.chare; block = x; start = nx.start })) x_is in
+    let book_is : keyed c.put.new.self ≡ put_key (key_of (now p limit m small same bs s f few nx least)) (begun_of m (now p limit m small same bs s f few nx least)) (keyed s.book) = c.in_ok-put.ensures ∙ (λ i. put_key ((begun_is i).row.chare ∷ (x_is i).path.0) (begun_is i) (keyed s.book)) in
+    let sent_is : c.in_ok-messages.messages.items ≡ (now p limit m small same bs s f few nx least).block.sends = c.in_ok-messages.ensures ∙ (c.as_slice.ensures ∙ ap (λ (x : Block). x.sends) x_is) in
     let old_mails = c.deref_mut.ensures.value in
-    let delivered : AreDelivered s.mails.items (now p limit m n clean small same bs s f nx least).block.sends c.deliver.new.mails =
-    subst (λ old. AreDelivered old (now p limit m n clean small same bs s f nx least).block.sends c.deliver.new.mails) old_mails
+    let can : CanDeliver limit s.mails.items (now p limit m small same bs s f few nx least).block.sends =
+    subst (λ old. CanDeliver limit old (now p limit m small same bs s f few nx least).block.sends) old_mails
+    (subst (λ ms. CanDeliver limit c.deref_mut.result.now ms) sent_is c.in_ok-changed.ensures.given) in
+    let delivered : AreDelivered s.mails.items (now p limit m small same bs s f few nx least).block.sends c.deliver.new.mails =
+    subst (λ old. AreDelivered old (now p limit m small same bs s f few nx least).block.sends c.deliver.new.mails) old_mails
     (subst (λ ms. AreDelivered c.deref_mut.result.now ms c.deliver.new.mails) sent_is c.in_ok-changed.ensures.delivered) in
     let kept : AreKept s.mails.items c.in_ok-changed.changed.items c.deliver.new.mails = subst (λ old. AreKept old c.in_ok-changed.changed.items c.deliver.new.mails) old_mails c.in_ok-changed.ensures.heard in
     let new_mails : c.deref.result.now ≡ c.deliver.new.mails = c.deref.ensures.value ∙ with_items_is s.mails c.deliver.new.mails (delivered.count ∙ sym s.mails.ok.0) in
-    let are : AreHistories p limit c.deliver.new.mails c.renew.new.histories = subst (λ ms. AreHistories p limit ms c.renew.new.histories) new_mails c.in_ok-renew.ensures in
+    let are : AreHistories p limit c.deliver.new.mails c.renew.new.histories = subst (λ ms. AreHistories p limit ms c.renew.new.histories) new_mails c.in_ok-renew.ensures.taken in
     let old_count : length s.histories.items ≡ p.chares = ap (λ hs. length hs) f.histories ∙ count_numbers (λ c'. history p limit c' (mail_to (messages bs) c')) p.chares 0 in
     let same_items = with_items_is s.histories c.renew.new.histories (are.count ∙ (delivered.count ∙ (f.chares ∙ (sym old_count ∙ sym s.histories.ok.0)))) in
     let new_histories : c.deref-3.result.now ≡ c.renew.new.histories = c.deref-3.ensures.value ∙ same_items in
     λ c' e.
     subst (λ (hs : List History). best_at m c.put.new.self hs c.deref_mut-3.result.now c') (sym new_histories)
     (subst (λ bests. best_at m c.put.new.self c.renew.new.histories bests c') (sym c.deref_mut-3.ensures.value)
-    (bests_kept p limit m n clean small same bs s f nx least c.put.new.self book_is c.deliver.new.mails c.in_ok-changed.changed.items delivered kept c.renew.new.histories are c' (ap (λ (xs : List Bool). slice_get xs c') (sym c.deref-4.ensures.value) ∙ e)))
+    (bests_kept p limit m small same bs s f few nx least can c.put.new.self book_is c.deliver.new.mails c.in_ok-changed.changed.items delivered kept c.renew.new.histories are c' (ap (λ (xs : List Bool). slice_get xs c') (sym c.deref-4.ensures.value) ∙ e)))
 
-pub returns : goal.returns
-returns c =
-    λ bs f.
+pub returns-clause-follows : goal.returns-clause-follows
+returns-clause-follows c =
+    λ bs f few.
     let p = c.args.accepted.now.program in
     let limit = c.args.limit in
     let m = c.args.machine.now in
-    let n = c.requires.clean.0 in
-    let clean = c.requires.clean.1 in
     let small = c.requires.limit.1 in
     let same = c.requires.chares in
     let s = c.args.self in
     let nx = c.args.next in
     let least = c.requires.least in
-    let x_is = block_is p limit m n clean small same bs s f nx least c.index.result.now c.block_at-block.result.now c.index.ensures c.block_at-block.ensures in
-    let begun_is : c.in_ok-begun.begun ≡ begun_of m (now p limit m n clean small same bs s f nx least) = c.in_ok-begun.ensures ∙ ap (λ (x : Block). begun_of m (record { chare = nx.chare; block = x; start = nx.start })) x_is in
-    let book_is : keyed c.put.new.self ≡ put_key (key_of (now p limit m n clean small same bs s f nx least)) (begun_of m (now p limit m n clean small same bs s f nx least)) (keyed s.book) = c.in_ok-put.ensures ∙ (λ i. put_key ((begun_is i).row.chare ∷ (x_is i).path.0) (begun_is i) (keyed s.book)) in
-    let sent_is : c.in_ok-messages.messages.items ≡ (now p limit m n clean small same bs s f nx least).block.sends = c.in_ok-messages.ensures ∙ (c.as_slice.ensures ∙ ap (λ (x : Block). x.sends) x_is) in
+    let x_is = block_is p limit m small same bs s f few nx least c.index.result.now c.block_at-block.result.now c.index.ensures c.block_at-block.ensures in
+    let begun_is : c.in_ok-begun.begun ≡ begun_of m (now p limit m small same bs s f few nx least) = c.in_ok-begun.ensures ∙ ap (λ (x : Block). begun_of m (record { chare = nx.chare; block = x; start = nx.start })) x_is in
+    let book_is : keyed c.put.new.self ≡ put_key (key_of (now p limit m small same bs s f few nx least)) (begun_of m (now p limit m small same bs s f few nx least)) (keyed s.book) = c.in_ok-put.ensures ∙ (λ i. put_key ((begun_is i).row.chare ∷ (x_is i).path.0) (begun_is i) (keyed s.book)) in
+    let sent_is : c.in_ok-messages.messages.items ≡ (now p limit m small same bs s f few nx least).block.sends = c.in_ok-messages.ensures ∙ (c.as_slice.ensures ∙ ap (λ (x : Block). x.sends) x_is) in
     let old_mails = c.deref_mut.ensures.value in
-    let delivered : AreDelivered s.mails.items (now p limit m n clean small same bs s f nx least).block.sends c.deliver.new.mails =
-    subst (λ old. AreDelivered old (now p limit m n clean small same bs s f nx least).block.sends c.deliver.new.mails) old_mails
+    let can : CanDeliver limit s.mails.items (now p limit m small same bs s f few nx least).block.sends =
+    subst (λ old. CanDeliver limit old (now p limit m small same bs s f few nx least).block.sends) old_mails
+    (subst (λ ms. CanDeliver limit c.deref_mut.result.now ms) sent_is c.in_ok-changed.ensures.given) in
+    let delivered : AreDelivered s.mails.items (now p limit m small same bs s f few nx least).block.sends c.deliver.new.mails =
+    subst (λ old. AreDelivered old (now p limit m small same bs s f few nx least).block.sends c.deliver.new.mails) old_mails
     (subst (λ ms. AreDelivered c.deref_mut.result.now ms c.deliver.new.mails) sent_is c.in_ok-changed.ensures.delivered) in
     let kept : AreKept s.mails.items c.in_ok-changed.changed.items c.deliver.new.mails = subst (λ old. AreKept old c.in_ok-changed.changed.items c.deliver.new.mails) old_mails c.in_ok-changed.ensures.heard in
     let new_mails : c.deref.result.now ≡ c.deliver.new.mails = c.deref.ensures.value ∙ with_items_is s.mails c.deliver.new.mails (delivered.count ∙ sym s.mails.ok.0) in
-    let are : AreHistories p limit c.deliver.new.mails c.renew.new.histories = subst (λ ms. AreHistories p limit ms c.renew.new.histories) new_mails c.in_ok-renew.ensures in
+    let are : AreHistories p limit c.deliver.new.mails c.renew.new.histories = subst (λ ms. AreHistories p limit ms c.renew.new.histories) new_mails c.in_ok-renew.ensures.taken in
     let old_count : length s.histories.items ≡ p.chares = ap (λ hs. length hs) f.histories ∙ count_numbers (λ c'. history p limit c' (mail_to (messages bs) c')) p.chares 0 in
     let same_items = with_items_is s.histories c.renew.new.histories (are.count ∙ (delivered.count ∙ (f.chares ∙ (sym old_count ∙ sym s.histories.ok.0)))) in
     let new_histories : c.deref-3.result.now ≡ c.renew.new.histories = c.deref-3.ensures.value ∙ same_items in
     let home = home_is p limit m bs s f nx least same in
-    let ends_are : slice_set s.ends.items nx.processor c.in_ok-begun.begun.row.end ≡ slice_set s.ends.items (home_of m nx.chare) (nx.start + duration_of m (now p limit m n clean small same bs s f nx least).block.cost) = λ i. slice_set s.ends.items (home i) ((begun_is i).row.end) in
+    let ends_are : slice_set s.ends.items nx.processor c.in_ok-begun.begun.row.end ≡ slice_set s.ends.items (home_of m nx.chare) (nx.start + duration_of m (now p limit m small same bs s f few nx least).block.cost) = λ i. slice_set s.ends.items (home i) ((begun_is i).row.end) in
     let bests_are : AreBest m c.put.new.self c.renew.new.histories c.choose.new.bests = subst (λ (hs : List History). AreBest m c.put.new.self hs c.choose.new.bests) new_histories c.in_ok-choose.ensures in
     let mail_items = with_items_is s.mails c.deliver.new.mails (delivered.count ∙ sym s.mails.ok.0) in
     let best_items = with_items_is s.bests c.choose.new.bests (bests_are.count ∙ (are.count ∙ (delivered.count ∙ (f.chares ∙ (sym (chares_here p limit m bs s f) ∙ sym s.bests.ok.0))))) in (
-      now p limit m n clean small same bs s f nx least,
-      follows_now p limit m n clean small same bs s f nx least c.put.new.self book_is c.deliver.new.mails c.in_ok-changed.changed.items delivered kept c.renew.new.histories are _ refl ends_are mail_items same_items
+      now p limit m small same bs s f few nx least,
+      follows_now p limit m small same bs s f few nx least can c.put.new.self book_is c.deliver.new.mails c.in_ok-changed.changed.items delivered kept c.renew.new.histories are _ refl ends_are mail_items same_items
           (subst (λ bests. AreBest m c.put.new.self c.renew.new.histories bests) (sym best_items) bests_are),
     )
