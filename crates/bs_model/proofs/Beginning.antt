@@ -3,7 +3,7 @@ use Rattle.std.proofs.Common.{◌≡◌, ◌≤◌, ◌<◌, ℕ, zero, suc, Lis
 use Rattle.bs_tree.specs.declared.tree.Program.{Program}
 use Rattle.bs_log.specs.declared.history.Message.{Message}
 use Rattle.bs_log.specs.declared.history.History.{History}
-use Rattle.bs_log.specs.Size.{size}
+use Rattle.bs_log.specs.Size.{size, size_all}
 use Rattle.bs_machine.specs.declared.fitted.Fitted.{Fitted}
 use Rattle.bs_machine.specs.Fitted.{processors_of}
 use Rattle.bs_match.specs.Mail.{lookup}
@@ -14,7 +14,7 @@ use Rattle.bs_model.specs.declared.book.Book.{Book}
 use Rattle.bs_model.specs.declared.candidates.Best.{Best}
 use Rattle.bs_model.specs.declared.state.State.{State}
 use Rattle.bs_model.specs.Book.{at_key, found, keyed}
-use Rattle.bs_model.specs.Mails.{mail_in}
+use Rattle.bs_model.specs.Mails.{IsSize, mail_in}
 use Rattle.bs_model.specs.Next.{best_among}
 use Rattle.bs_model.specs.Ready.{AreBooked}
 use Rattle.bs_model.specs.Started.{none_yet}
@@ -31,6 +31,13 @@ first_short p limit n clean c l =
     let all = w.size in
     omega (arith, one, all)
 
+pub first_together : (p : Program) (limit n : ℕ) → CleanAt p limit n → (hs : List History) → Pushed (λ (c : ℕ) (o : Option History). o ≡ Some (history p limit c (lookup []))) p.chares hs → size_all hs ≤ limit
+first_together p limit n clean hs h =
+    let same = numbered (λ c. history p limit c (mail_to [] c)) p.chares 0 hs h.count (λ c l. h.each c l ∙ ap (λ d. Some (history p limit d (lookup []))) (omega arith)) in
+    let sizes = ap size_all same in
+    let all = (partly p limit n [] clean (λ m i. absurd i)).size in
+    omega (arith, sizes, all)
+
 pub none_booked : (m : Fitted) (book : Book) → keyed book ≡ [] → AreBooked m book
 none_booked m book e c path b f =
     let none : found book c path ≡ None = ap (λ es. at_key es (c ∷ path)) e in
@@ -45,8 +52,8 @@ pub follows_none : (p : Program) (limit : ℕ) (m : Fitted) (t : State) → keye
     → Pushed (λ (c : ℕ) (o : Option (List Message)). o ≡ Some []) p.chares t.mails.items
     → Pushed (λ (c : ℕ) (o : Option History). o ≡ Some (history p limit c (lookup []))) p.chares t.histories.items
     → Pushed (λ (c : ℕ) (o : Option (Option Best)). best_among m t.book c (Some (history p limit c (lookup []))) o) p.chares t.bests.items
-    → Follows p limit m [] t
-follows_none p limit m t book processors ends mails histories bests = record {
+    → IsSize limit t.histories.items t.size → Follows p limit m [] t
+follows_none p limit m t book processors ends mails histories bests size = record {
   started = none_yet;
   book = book;
   processors = processors;
@@ -54,6 +61,7 @@ follows_none p limit m t book processors ends mails histories bests = record {
   chares = mails.count;
   mails = λ c l. ap mail_in (mails.each c l);
   histories = numbered (λ c. history p limit c (mail_to [] c)) p.chares 0 t.histories.items histories.count (λ c l. histories.each c l ∙ ap (λ d. Some (history p limit d (lookup []))) (omega arith));
+  size = size;
   bests = record {
     count = bests.count ∙ sym histories.count;
     each = λ c l.

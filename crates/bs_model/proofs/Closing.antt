@@ -1,8 +1,9 @@
--- Where no block can start and the histories are clean, they are a closed set, and so the verdict is Clean. And where it
--- is, they are clean.
-use Rattle.std.proofs.Common.{◌≡◌, inl, inr, ℕ, Bool, true, false, List, [], ◌∷◌, refl, sym, ap, subst, ◌∙◌}
+-- Where no block can start and no key is asked for twice, the histories are a closed set, and so the verdict is Clean. And
+-- where it is, no key is asked for twice.
+use Rattle.std.proofs.Common.{◌≡◌, ◌≤◌, inl, inr, ℕ, Bool, true, false, List, [], ◌∷◌, refl, sym, ap, subst, ◌∙◌, arith}
 use Rattle.bs_tree.specs.declared.tree.Program.{Program}
 use Rattle.bs_log.specs.declared.history.Message.{Message}
+use Rattle.bs_log.specs.Size.{size_all}
 use Rattle.bs_machine.specs.declared.fitted.Fitted.{Fitted}
 use Rattle.bs_rounds.proofs.Origins.{Differ, origins_differ}
 use Rattle.bs_semantics.specs.Orderly.{InOrder}
@@ -18,7 +19,7 @@ use Rattle.bs_semantics.proofs.Sets.{from_block}
 use Rattle.bs_semantics.proofs.Starting.{in_messages, started, stuck_closed}
 use Rattle.bs_times.specs.Machine.{machine_of}
 use Rattle.bs_model.specs.declared.state.State.{State}
-use Rattle.bs_model.specs.Clean.{AreClean}
+use Rattle.bs_model.specs.Asking.{AskOnce}
 use Rattle.bs_model.specs.State.{Follows}
 use Rattle.bs_model.specs.Stop.{HasCleanRound}
 use Rattle.bs_model.proofs.Running.{keys_apart, are_blocks, reached}
@@ -45,16 +46,22 @@ module _ (p : Program) (limit : ℕ) (m : Fitted) (bs : List Started) (s : State
       let d = started p limit bs (are_blocks p limit (machine_of m) bs f.started) none from.chare from.is_chare from.block from.is_block in
       in_messages d.started bs a d.is_in (subst (λ x. Mem a x.sends) (sym d.block) from.is_sent)
 
-  pub has_clean_round : NoneEnabled p limit bs → AreClean limit s.histories.items → HasCleanRound p limit
-  has_clean_round none clean =
+  small : size_all (histories_at p limit bs) ≤ limit
+  small =
+      let is = f.size.is in
+      let most = f.size.most in
+      let same = ap size_all f.histories in
+      omega (arith, is, most, same)
+
+  pub has_clean_round : NoneEnabled p limit bs → AskOnce s.histories.items → HasCleanRound p limit
+  has_clean_round none asked =
       let hs = histories_at p limit bs in
-      let now = subst (AreClean limit) f.histories clean in
       let distinct = distinct_of (sent hs) (origins_differ p limit (mail_to (messages bs)) p.chares 0) in
       let once = apart_in (sent hs) (messages bs) distinct (all_begun none) (keys_apart p limit (machine_of m) bs f.started) in
-      let c = closed_clean p limit hs (stuck_closed p limit bs (are_blocks p limit (machine_of m) bs f.started) none (record { size = now.size; once = record { sent = once; asked = now.asked } })) in
+      let c = closed_clean p limit hs (stuck_closed p limit bs (are_blocks p limit (machine_of m) bs f.started) none (record { size = small; once = record { sent = once; asked = subst AskOnce f.histories asked } })) in
       (c.0, c.1)
 
-  pub are_clean : HasCleanRound p limit → AreClean limit s.histories.items
-  are_clean h =
+  pub asks_once : HasCleanRound p limit → AskOnce s.histories.items
+  asks_once h =
       let clean = reached_clean p limit (machine_of m) h.0 h.1 bs (reached p limit (machine_of m) h.0 h.1 bs f.started) in
-      subst (AreClean limit) (sym f.histories) (record { size = clean.size; asked = (clean.once).asked })
+      subst AskOnce (sym f.histories) (clean.once).asked

@@ -23,7 +23,7 @@ use Rattle.bs_model.specs.declared.candidates.Next.{Next}
 use Rattle.bs_model.specs.declared.state.State.{State}
 use Rattle.bs_model.specs.Book.{at_key, found, keyed, put_key}
 use Rattle.bs_times.specs.Machine.{machine_of}
-use Rattle.bs_model.specs.Mails.{mail_at, history_at, AreDelivered, AreFor, AreHistories, AreKept, AreShallow, AreShort, CanDeliver}
+use Rattle.bs_model.specs.Mails.{mail_at, history_at, AreDelivered, AreFor, AreHistories, AreKept, AreShallow, AreShort, CanDeliver, IsSize}
 use Rattle.bs_model.specs.Next.{AreBest, IsLeastAt, best_among, best_at}
 use Rattle.bs_model.specs.Ready.{AreBooked, IsBooked, IsTimeable}
 use Rattle.bs_model.specs.Started.{AreStarted}
@@ -32,10 +32,10 @@ use Rattle.bs_model.specs.Stop.{HasCleanRound}
 use Rattle.bs_model.proofs.Choosing.{tied, history_here, its_best, started, is_next, chare_low, home_is}
 use Rattle.bs_model.proofs.Early.{start_low, started_low}
 use Rattle.bs_model.proofs.Entries.{key_of, entries_more, finds_same}
-use Rattle.bs_model.proofs.Places.{get_set_same, get_set_other, numbered, below_of}
+use Rattle.bs_model.proofs.Places.{get_set_same, get_set_other, below_of}
 use Rattle.bs_model.proofs.Running.{are_blocks, differ}
 use Rattle.bs_model.proofs.Staying.{best_stays}
-use Rattle.bs_model.proofs.Stepping.{targets, more_started, mails_now, shallow, histories_kept, can_deliver, short}
+use Rattle.bs_model.proofs.Stepping.{targets, more_started, mails_now, shallow, histories_are, histories_kept, can_deliver, short}
 
 pub each_of : {A B : Type 0} (P : B → Type 0) (f : A → B) (xs : List A) → ((x : A) → Mem x xs → P (f x)) → (k : ℕ) (d : B) → k < length (map f xs) → P (get_or (map f xs) k d)
 each_of P f [] h k d l = absurd (omega (arith, l))
@@ -153,9 +153,8 @@ module _ (p : Program) (limit : ℕ) (m : Fitted) (small : limit ≤ 262144) (sa
           mails_count : length mails ≡ p.chares
           mails_count = d.count ∙ f.chares
 
-          pub histories_are : hs ≡ histories_at p limit (now ∷ bs)
-          histories_are = numbered (λ c. history p limit c (mail_to (messages (now ∷ bs)) c)) p.chares 0 hs (are.count ∙ mails_count) (λ c l.
-              are.each c (let k = mails_count in omega (arith, l, k)) ∙ (ap (λ mail. Some (history p limit c mail)) (mails_are c l) ∙ ap (λ d. Some (history p limit d (mail_to (messages (now ∷ bs)) d))) (omega arith)))
+          its_histories : hs ≡ histories_at p limit (now ∷ bs)
+          its_histories = histories_are p limit m bs f.started now next_now s.mails.items f.chares some_chare f.mails mails d hs are
 
           -- a chare that wasn't heard of, and isn't that of the block
           other_best : (c : ℕ) → slice_get heard c ≡ Some false → (now.chare ≡ c → ⊥) → best_at m book hs s.bests.items c
@@ -198,14 +197,15 @@ module _ (p : Program) (limit : ℕ) (m : Fitted) (small : limit ≤ 262144) (sa
           unfolding machine_of
           ends_now q l = ends_if q (home_of m now.chare == q) l refl
 
-          pub follows_now : (t : State) → t.book ≡ book → t.ends.items ≡ slice_set s.ends.items (home_of m now.chare) (now.start + duration_of m now.block.cost) → t.mails.items ≡ mails → t.histories.items ≡ hs → AreBest m book hs t.bests.items → Follows p limit m (now ∷ bs) t
-          follows_now t same_book same_ends same_mails same_histories bests = record {
+          pub follows_now : (t : State) → t.book ≡ book → t.ends.items ≡ slice_set s.ends.items (home_of m now.chare) (now.start + duration_of m now.block.cost) → t.mails.items ≡ mails → t.histories.items ≡ hs → IsSize limit hs t.size → AreBest m book hs t.bests.items → Follows p limit m (now ∷ bs) t
+          follows_now t same_book same_ends same_mails same_histories size bests = record {
             started = started_now;
             book = ap keyed same_book ∙ entries_now;
             processors = ap (λ xs. length xs) same_ends ∙ (length-set s.ends.items (home_of m now.chare) (now.start + duration_of m now.block.cost) ∙ f.processors);
             ends = λ q l. ap (λ xs. get_or xs q 0) same_ends ∙ ends_now q l;
             chares = ap (λ xs. length xs) same_mails ∙ mails_count;
             mails = λ c l. ap (λ xs. mail_at xs c) same_mails ∙ mails_are c l;
-            histories = same_histories ∙ histories_are;
+            histories = same_histories ∙ its_histories;
+            size = subst (λ hs. IsSize limit hs t.size) (sym same_histories) size;
             bests = subst (λ b. AreBest m b t.histories.items t.bests.items) (sym same_book) (subst (λ hs. AreBest m book hs t.bests.items) (sym same_histories) bests);
           }

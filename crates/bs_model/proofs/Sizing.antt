@@ -1,29 +1,17 @@
--- One history after the other is tested.
-use Rattle.std.proofs.Common.{◌≤◌, ℕ, ◌-◌, List, [], ◌∷◌, arith}
-use Rattle.std.proofs.lemmas.List.Sums.{sum_by-cons}
+-- The size of histories together, when one is made anew or pushed.
+use Rattle.std.proofs.Common.{◌≡◌, ◌≤◌, ◌<◌, ℕ, ◌+◌, false, List, [], ◌∷◌, ◌++◌, length, get_or, set, arith}
+use Rattle.std.proofs.lemmas.List.Sums.{sum_by-append, sum_by-cons, sum_by-set}
 use Rattle.bs_log.specs.declared.history.History.{History}
-use Rattle.bs_log.specs.Size.{size}
-use Rattle.bs_semantics.specs.Rounds.{Apart, one_asked}
-use Rattle.bs_model.specs.Clean.{AreClean}
+use Rattle.bs_log.specs.Size.{size, size_all}
 
-module _ (room : ℕ) (h : History) (hs : List History) where
-  pub first_fits : AreClean room (h ∷ hs) → size h ≤ room
-  first_fits c =
-      let all = sum_by-cons size h hs in
-      let low = c.size in
-      omega (arith, all, low)
+pub size_at : (hs : List History) (c : ℕ) (d : History) → c < length hs → size (get_or hs c d) ≤ size_all hs
+size_at hs c d l = let one = sum_by-set size hs c (record { blocks = []; asked = []; waits = []; traps = []; ended = false }) d l in omega (arith, one)
 
-  pub with_first : size h ≤ room → Apart one_asked h.asked → AreClean (room - size h) hs → AreClean room (h ∷ hs)
-  with_first l a c =
-      let all = sum_by-cons size h hs in
-      let low = c.size in
-      record { size = omega (arith, all, low, l); asked = (a, c.asked) }
+pub size_set : (hs : List History) (c : ℕ) (h d : History) → c < length hs → size_all (set hs c h) + size (get_or hs c d) ≡ size_all hs + size h
+size_set hs c h d l = sum_by-set size hs c h d l
 
-  pub without_first : AreClean room (h ∷ hs) → AreClean (room - size h) hs
-  without_first c =
-      let all = sum_by-cons size h hs in
-      let low = c.size in
-      record { size = omega (arith, all, low); asked = c.asked.1 }
-
-pub none_clean : (room : ℕ) → AreClean room []
-none_clean room = record { size = omega arith; asked = tt }
+pub size_push : (hs : List History) (h : History) → size_all (hs ++ h ∷ []) ≡ size_all hs + size h
+size_push hs h =
+    let both = sum_by-append size hs (h ∷ []) in
+    let one = sum_by-cons size h [] in
+    omega (arith, both, one)

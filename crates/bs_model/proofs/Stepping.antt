@@ -31,10 +31,10 @@ use Rattle.bs_semantics.proofs.Chains.{closed_low}
 use Rattle.bs_semantics.proofs.Confluence.{clean_closed}
 use Rattle.bs_semantics.proofs.Reached.{reached_sent, reached_clean}
 use Rattle.bs_times.specs.Machine.{machine_of}
-use Rattle.bs_model.specs.Mails.{mail_at, mail_in, mail_after, AreDelivered, AreFor, AreKept, AreShallow, AreShort, CanDeliver, history_at}
+use Rattle.bs_model.specs.Mails.{mail_at, mail_in, mail_after, AreDelivered, AreFor, AreHistories, AreKept, AreShallow, AreShort, CanDeliver, history_at}
 use Rattle.bs_model.specs.Started.{AreStarted, IsSent, one_more}
 use Rattle.bs_model.proofs.Delivery.{none_if}
-use Rattle.bs_model.proofs.Places.{at_number}
+use Rattle.bs_model.proofs.Places.{at_number, numbered}
 use Rattle.bs_model.proofs.Running.{keys_apart, all_low, are_blocks, reached}
 use Rattle.bs_model.proofs.Staying.{signed_at}
 
@@ -149,6 +149,10 @@ module _ (p : Program) (limit : ℕ) (m : Fitted) where
       pub mails_now : (c : ℕ) → c < p.chares → mail_at new c ≡ mail_to (messages (b ∷ bs)) c
       mails_now c l = d.mails c (omega (arith, l, count)) ∙ (ap (λ mail. mail_after c mail b.block.sends) (is c l) ∙ after_is c b.block.sends (messages bs))
 
+      pub histories_are : (hs : List History) → AreHistories p limit new hs → hs ≡ histories_at p limit (b ∷ bs)
+      histories_are hs are = numbered (λ c. history p limit c (mail_to (messages (b ∷ bs)) c)) p.chares 0 hs (are.count ∙ (d.count ∙ count)) (λ c l.
+          are.each c (let k = d.count in omega (arith, l, k, count)) ∙ (ap (λ mail. Some (history p limit c mail)) (mails_now c l) ∙ ap (λ d. Some (history p limit d (mail_to (messages (b ∷ bs)) d))) (omega arith)))
+
       pub shallow : limit ≤ 262144 → CanDeliver limit mails b.block.sends → AreShallow new
       shallow few can c k x e =
           let lt = none_held new c k x e in
@@ -193,10 +197,16 @@ module _ (p : Program) (limit : ℕ) (m : Fitted) where
           }
 
       pub short : (new : List (List Message)) → AreDelivered mails b.block.sends new → AreShort p limit new
-      short new d c l =
-          let same = d.count in
-          let lt : c < p.chares = omega (arith, l, same, count) in
-          let here : slice_get (histories_at p limit (b ∷ bs)) c ≡ Some (history p limit c (mail_to (messages (b ∷ bs)) c)) = at_number (λ c. history p limit c (mail_to (messages (b ∷ bs)) c)) p.chares 0 c lt ∙ ap (λ d. Some (history p limit d (mail_to (messages (b ∷ bs)) d))) (omega arith) in
-          let one = size_here (histories_at p limit (b ∷ bs)) c _ here in
-          let all = (reached_clean p limit (machine_of m) n clean (b ∷ bs) reached_now).size in
-          subst (λ (l : Lookup). size (history p limit c l) ≤ limit) (sym (mails_now new d c lt)) (omega (arith, one, all))
+      short new d = record { each = one_short; together = λ hs are. let same = ap size_all (histories_are new d hs are) in let all = small in omega (arith, same, all) }
+        where
+          small : size_all (histories_at p limit (b ∷ bs)) ≤ limit
+          small = (reached_clean p limit (machine_of m) n clean (b ∷ bs) reached_now).size
+
+          one_short : (c : ℕ) → c < length new → size (history p limit c (mail_at new c)) ≤ limit
+          one_short c l =
+              let same = d.count in
+              let lt : c < p.chares = omega (arith, l, same, count) in
+              let here : slice_get (histories_at p limit (b ∷ bs)) c ≡ Some (history p limit c (mail_to (messages (b ∷ bs)) c)) = at_number (λ c. history p limit c (mail_to (messages (b ∷ bs)) c)) p.chares 0 c lt ∙ ap (λ d. Some (history p limit d (mail_to (messages (b ∷ bs)) d))) (omega arith) in
+              let one = size_here (histories_at p limit (b ∷ bs)) c _ here in
+              let all = small in
+              subst (λ (l : Lookup). size (history p limit c l) ≤ limit) (sym (mails_now new d c lt)) (omega (arith, one, all))

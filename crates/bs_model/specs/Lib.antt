@@ -1,5 +1,5 @@
+pub mod Asking
 pub mod Book
-pub mod Clean
 pub mod Mails
 pub mod Next
 pub mod Ready

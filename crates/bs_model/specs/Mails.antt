@@ -4,7 +4,7 @@ use Rattle.bs_tree.specs.declared.tree.Program.{Program}
 use Rattle.bs_log.specs.declared.history.Key.{Key}
 use Rattle.bs_log.specs.declared.history.Message.{Message}
 use Rattle.bs_log.specs.declared.history.History.{History}
-use Rattle.bs_log.specs.Size.{size}
+use Rattle.bs_log.specs.Size.{size, size_all}
 use Rattle.bs_match.specs.Mail.{lookup, with_message}
 use Rattle.bs_semantics.specs.Run.{Lookup, history}
 use Rattle.bs_semantics.specs.Rounds.{Mem, Apart, one_key}
@@ -54,10 +54,6 @@ IsShallow ms = (k : Key) (m : Message) → lookup ms k ≡ Some m → m.origin.d
 abbrev pub AreShallow : List (List Message) → Type 0
 AreShallow mails = (c : ℕ) (k : Key) (m : Message) → mail_at mails c k ≡ Some m → m.origin.depth ≤ 262144
 
--- no history is too long
-abbrev pub AreShort : Program → ℕ → List (List Message) → Type 0
-AreShort p limit mails = (c : ℕ) → c < length mails → size (history p limit c (mail_at mails c)) ≤ limit
-
 abbrev pub history_at : Program → ℕ → List (List Message) → ℕ → Option History
 history_at p limit mails c = Some (history p limit c (mail_at mails c))
 
@@ -65,3 +61,13 @@ history_at p limit mails c = Some (history p limit c (mail_at mails c))
 pub record AreHistories (p : Program) (limit : ℕ) (mails : List (List Message)) (hs : List History) : Type 0 where
   pub count : length hs ≡ length mails
   pub each : (c : ℕ) → c < length mails → slice_get hs c ≡ history_at p limit mails c
+
+-- no history is too long, nor are all together
+pub record AreShort (p : Program) (limit : ℕ) (mails : List (List Message)) : Type 0 where
+  pub each : (c : ℕ) → c < length mails → size (history p limit c (mail_at mails c)) ≤ limit
+  pub together : (hs : List History) → AreHistories p limit mails hs → size_all hs ≤ limit
+
+-- a size that is that of these histories, and at most the limit
+pub record IsSize (limit : ℕ) (hs : List History) (size : ℕ) : Type 0 where
+  pub is : size ≡ size_all hs
+  pub most : size ≤ limit

@@ -10,7 +10,7 @@ use Rattle.bs_model.specs.declared.book.Begun.{Begun}
 use Rattle.bs_model.specs.declared.state.State.{State}
 use Rattle.bs_model.specs.Book.{keyed}
 use Rattle.bs_times.specs.Machine.{machine_of}
-use Rattle.bs_model.specs.Mails.{mail_at}
+use Rattle.bs_model.specs.Mails.{IsSize, mail_at}
 use Rattle.bs_model.specs.Next.{AreBest}
 use Rattle.bs_model.specs.Started.{AreStarted}
 
@@ -33,4 +33,5 @@ pub record Follows (p : Program) (limit : ℕ) (m : Fitted) (bs : List Started) 
   pub chares : length s.mails.items ≡ p.chares
   pub mails : (c : ℕ) → c < p.chares → mail_at s.mails.items c ≡ mail_to (messages bs) c
   pub histories : s.histories.items ≡ histories_at p limit bs
+  pub size : IsSize limit s.histories.items s.size
   pub bests : AreBest m s.book s.histories.items s.bests.items

@@ -3,9 +3,9 @@
 //! `docs/model.md` says what it gives.
 #![tactic(auto)]
 
+mod asking;
 mod book;
 mod candidates;
-mod clean;
 mod copies;
 mod mails;
 mod model;

@@ -1,15 +1,15 @@
 // The mails of the chares, and the histories under them.
 ghost use Rattle.std.specs.Prelude.{◌≡◌, ◌≤◌, ◌<◌, ℕ, false, IfOk, IfErr, OnOk, Some, length, slice_get};
-ghost use Rattle.bs_log.specs.Size.{size};
+ghost use Rattle.bs_log.specs.Size.{size, size_all};
 ghost use Rattle.bs_match.specs.Mail.{lookup, with_message};
 ghost use Rattle.bs_semantics.specs.Run.{history as history_of};
-ghost use Rattle.bs_model.specs.Mails.{AreDelivered, AreFor, AreHistories, AreKept, AreShallow, AreShort, CanDeliver, CanPut, IsShallow, history_at};
+ghost use Rattle.bs_model.specs.Mails.{AreDelivered, AreFor, AreHistories, AreKept, AreShallow, AreShort, CanDeliver, CanPut, IsShallow, IsSize, history_at};
 ghost use Rattle.bs_model.specs.Stop.{Denies};
 
 use crate::stop::Stop;
 use bs_check::Accepted;
 use bs_history::{HistoryFault, history};
-use bs_log::{History, Message};
+use bs_log::{History, Message, size};
 use bs_match::{Mail, PutFault};
 use std::alloc::Global;
 
@@ -56,9 +56,10 @@ fn put(limit: u64, mail: &mut Mail, message: Message) -> Result<(), Stop>
     }
 }
 
-/// Takes the histories of those chares anew that got a message.
+/// Takes the histories of those chares anew that got a message. The size of all together is given, and
+/// comes back as it is then.
 ///
-/// `Unclean` comes where the size of one is above the limit.
+/// `Unclean` comes where the size of one or of all together is above the limit.
 pub(crate) fn renew(
     alloc: Global,
     accepted: &Accepted,
@@ -66,21 +67,30 @@ pub(crate) fn renew(
     heard: &[bool],
     limit: u64,
     histories: &mut [History],
-) -> Result<(), Stop>
+    size_before: u64,
+) -> Result<u64, Stop>
     requires chares { length mails.now ≡ accepted.now.program.chares }
     requires lengths { (length heard.now ≡ length mails.now) × (length histories.old ≡ length mails.now) }
     requires limit { limit ≤ 262144 }
     requires shallow { AreShallow mails.now }
     requires kept { (c : ℕ) → slice_get heard.now c ≡ Some false → slice_get histories.old c ≡ history_at accepted.now.program limit mails.now c }
+    requires size { IsSize limit histories.old size_before }
     ensures taken { OnOk result (AreHistories accepted.now.program limit mails.now histories.new) }
+    ensures size { IfOk result (IsSize limit histories.new) }
     ensures stopped { IfErr result (Denies (AreShort accepted.now.program limit mails.now)) }
 {
+    let mut together = size_before;
     for chare in 0..histories.len() {
         if heard[chare] {
-            histories[chare] = take(alloc, accepted, chare as u32, &mails[chare], limit)?;
+            let taken = take(alloc, accepted, chare as u32, &mails[chare], limit)?;
+            together = together - size(&histories[chare]) + size(&taken);
+            histories[chare] = taken;
         }
     }
-    Ok(())
+    if together > limit {
+        return Err(Stop::Unclean);
+    }
+    Ok(together)
 }
 
 /// The history of a chare under a mail.
@@ -97,6 +107,7 @@ pub(crate) fn take(
     requires limit { limit ≤ 262144 }
     requires shallow { IsShallow mail.now }
     ensures taken { IfOk result (λ h. h ≡ history_of accepted.now.program limit chare (lookup mail.now)) }
+    ensures short { IfOk result (λ h. size h ≤ limit) }
     ensures stopped { IfErr result (Denies (size (history_of accepted.now.program limit chare (lookup mail.now)) ≤ limit)) }
 {
     // The keys of a mail rise, so each of its messages is found by its key.

@@ -36,9 +36,9 @@ pub fn simulate(
     }
 }
 
-// Starts blocks until none can start. Where the verdict is Clean, each state is clean. So nothing is
-// tested of a state on the way but what the next step needs, and all of the last state, which is clean
-// only where the verdict is Clean.
+// Starts blocks until none can start. Where the verdict is Clean, each state is clean, and the last state
+// is clean only there. So on the way only what each step changes is tested, and the keys that the chares
+// ask for are tested at the end.
 fn run(alloc: Global, accepted: &Accepted, machine: &Fitted, limit: u64) -> Result<Outcome, Stop>
     requires chares { machine.now.chares ≡ accepted.now.program.chares }
     requires limit { (1 ≤ limit) × (limit ≤ 262144) }
@@ -51,7 +51,7 @@ fn run(alloc: Global, accepted: &Accepted, machine: &Fitted, limit: u64) -> Resu
     for _turn in 0..limit + 1 {
         match state.next(machine) {
             Some(next) => state = state.start(alloc, accepted, machine, limit, next)?,
-            None => return state.outcome(alloc, limit),
+            None => return state.outcome(alloc),
         }
     }
     // A clean state has no more blocks than the limit.

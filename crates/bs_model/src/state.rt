@@ -5,31 +5,33 @@ ghost use Rattle.bs_semantics.specs.Serial.{Started};
 ghost use Rattle.bs_model.specs.Book.{keyed};
 ghost use Rattle.bs_model.specs.Next.{IsLeast};
 ghost use Rattle.bs_log.specs.Collected.{traps_from, waits_from};
-ghost use Rattle.bs_model.specs.Clean.{AreClean};
+ghost use Rattle.bs_model.specs.Asking.{AskOnce};
 ghost use Rattle.bs_model.specs.State.{Follows, begun_of};
 ghost use Rattle.bs_model.specs.Stop.{Denies, HasCleanRound};
 
+use crate::asking::ask_once;
 use crate::book::{Begun, Book};
 use crate::candidates::{Best, Next, best_block, choose, next_block};
-use crate::clean::are_clean;
 use crate::copies::{copy_messages, copy_numbers, copy_sends};
 use crate::mails::{deliver, renew, take};
 use crate::outcome::{traps, waits};
 use crate::stop::Stop;
 use bs_check::Accepted;
-use bs_log::{Block, History, OutRow, Outcome};
+use bs_log::{Block, History, OutRow, Outcome, size as size_of};
 use bs_machine::Fitted;
 use bs_match::Mail;
 use std::alloc::{AllocError, Global};
 
 /// What was started, and what that leads to: the last end of each processor, and of each chare its
-/// mail, its history under that mail, and the block of it that starts before its others.
+/// mail, its history under that mail, and the block of it that starts before its others. The size is that
+/// of all histories together.
 #[derive(Drop)]
 pub(crate) struct State {
     book: Book,
     ends: Vec<u128>,
     mails: Vec<Mail>,
     histories: Vec<History>,
+    size: u64,
     bests: Vec<Option<Best>>,
 }
 
@@ -40,7 +42,7 @@ impl State {
     ghost use Rattle.bs_model.specs.Book.{keyed};
     ghost use Rattle.bs_model.specs.Next.{IsLeast};
     ghost use Rattle.bs_log.specs.Collected.{traps_from, waits_from};
-    ghost use Rattle.bs_model.specs.Clean.{AreClean};
+    ghost use Rattle.bs_model.specs.Asking.{AskOnce};
     ghost use Rattle.bs_model.specs.State.{Follows, begun_of};
     ghost use Rattle.bs_model.specs.Stop.{Denies, HasCleanRound};
 
@@ -62,14 +64,19 @@ impl State {
         let book = Book::new(alloc);
         let mut mails = Vec::new(alloc);
         let mut histories = Vec::new(alloc);
+        let mut size = 0;
         let mut bests = Vec::new(alloc);
         for chare in 0..chares {
             let mail = Mail::new(alloc);
             let history = take(alloc, accepted, chare, &mail, limit)?;
             let best = best_block(alloc, machine, &book, chare, history.blocks.as_slice())?;
+            size += size_of(&history);
             push(&mut bests, best)?;
             push(&mut histories, history)?;
             push(&mut mails, mail)?;
+        }
+        if size > limit {
+            return Err(Stop::Unclean);
         }
         let ends = vec![in alloc; 0; machine.processors() as usize]?;
         Ok(State {
@@ -77,6 +84,7 @@ impl State {
             ends,
             mails,
             histories,
+            size,
             bests,
         })
     }
@@ -113,6 +121,7 @@ impl State {
             mut ends,
             mut mails,
             mut histories,
+            size,
             mut bests,
         } = self;
         let block = block_at(&histories[next.chare as usize], next.best.at);
@@ -121,7 +130,15 @@ impl State {
         ends[next.processor as usize] = begun.row.end;
         book.put(alloc, &block.path, begun)?;
         let mut changed = deliver(alloc, limit, &mut mails, messages)?;
-        renew(alloc, accepted, &mails, &changed, limit, &mut histories)?;
+        let size = renew(
+            alloc,
+            accepted,
+            &mails,
+            &changed,
+            limit,
+            &mut histories,
+            size,
+        )?;
         changed[next.chare as usize] = true;
         choose(alloc, machine, &book, &histories, &changed, &mut bests)?;
         Ok(State {
@@ -129,28 +146,28 @@ impl State {
             ends,
             mails,
             histories,
+            size,
             bests,
         })
     }
 
     /// The outcome, where no block can start.
     ///
-    /// `Unclean` comes where the histories are too long together, or a chare asks for a key twice.
-    pub(crate) fn outcome(self, alloc: Global, limit: u64) -> Result<Outcome, Stop>
-        requires chares { length self.histories.items ≤ 65536 }
-        requires limit { limit ≤ 262144 }
+    /// `Unclean` comes where a chare asks for a key twice.
+    pub(crate) fn outcome(self, alloc: Global) -> Result<Outcome, Stop>
+        requires { length self.histories.items ≤ 65536 }
         ensures rows { IfOk result (λ o. o.rows ≡ map (λ e. e.1.row) (keyed self.book)) }
         ensures traps { IfOk result (λ o. o.traps ≡ traps_from 0 self.histories.items) }
         ensures waits { IfOk result (λ o. o.waits ≡ waits_from 0 self.histories.items) }
-        ensures clean { OnOk result (AreClean limit self.histories.items) }
-        ensures stopped { IfErr result (Denies (AreClean limit self.histories.items)) }
+        ensures once { OnOk result (AskOnce self.histories.items) }
+        ensures stopped { IfErr result (Denies (AskOnce self.histories.items)) }
     {
         let State {
             book,
             histories,
             ..
         } = self;
-        are_clean(alloc, limit, &histories)?;
+        ask_once(alloc, &histories)?;
         Ok(Outcome {
             rows: book.rows(alloc)?,
             traps: traps(alloc, &histories)?,

@@ -7,9 +7,9 @@ use Rattle.bs_model.specs.Book.{keyed}
 use Rattle.bs_times.specs.Machine.{machine_of}
 use Rattle.bs_model.specs.Next.{IsLeast}
 use Rattle.bs_model.proofs.Choosing.{chares_here}
-use Rattle.bs_model.specs.Clean.{AreClean}
+use Rattle.bs_model.specs.Asking.{AskOnce}
 use Rattle.bs_model.specs.Stop.{HasCleanRound}
-use Rattle.bs_model.proofs.Closing.{are_clean, has_clean_round}
+use Rattle.bs_model.proofs.Closing.{asks_once, has_clean_round}
 use Rattle.bs_model.proofs.Counts.{few}
 use Rattle.bs_model.proofs.Ending.{none_enabled, is_serial, is_reportable, if_given, if_denied, on_given}
 use Rattle.bs_model.proofs.Running.{reached}
@@ -31,8 +31,8 @@ next-requires-clause-chares c =
     let inv = c.loop-turn.invariant in
     chares_here c.args.accepted.now.program c.args.limit c.args.machine.now inv.0 c.loop-turn.state inv.1 ∙ sym c.requires.chares
 
-pub outcome-requires-clause-chares : goal.outcome-requires-clause-chares
-outcome-requires-clause-chares c =
+pub outcome-requires : goal.outcome-requires
+outcome-requires c =
     let inv = c.loop-turn.invariant in
     let count = chares_here c.args.accepted.now.program c.args.limit c.args.machine.now inv.0 c.loop-turn.state inv.1 in
     let bests = inv.1.bests.count in
@@ -48,8 +48,8 @@ returns-in-None-clause-serial c =
     let none = subst (IsLeast m s.ends.items s.bests.items) c.in-None.is c.next.ensures in
     let clean = has_clean_round p limit m inv.0 s inv.1 (none_enabled p limit m inv.0 s inv.1 none) in
     if_given (λ (o : Outcome). o.rows ≡ map (λ e. e.1.row) (keyed s.book)) (λ (o : Outcome). o.traps ≡ traps_from 0 s.histories.items) (λ (o : Outcome). o.waits ≡ waits_from 0 s.histories.items)
-    (λ (o : Outcome). IsSerial p limit (machine_of m) (timed o)) (AreClean limit s.histories.items) (λ o rows traps waits are. is_serial p limit m (clean are).0 (clean are).1 c.requires.limit.1 inv.0 s inv.1 o rows traps waits none)
-    c.outcome.result c.outcome.ensures.rows c.outcome.ensures.traps c.outcome.ensures.waits c.outcome.ensures.clean
+    (λ (o : Outcome). IsSerial p limit (machine_of m) (timed o)) (AskOnce s.histories.items) (λ o rows traps waits are. is_serial p limit m (clean are).0 (clean are).1 c.requires.limit.1 inv.0 s inv.1 o rows traps waits none)
+    c.outcome.result c.outcome.ensures.rows c.outcome.ensures.traps c.outcome.ensures.waits c.outcome.ensures.once
 
 pub returns-in-None-clause-reportable : goal.returns-in-None-clause-reportable
 returns-in-None-clause-reportable c =
@@ -61,8 +61,8 @@ returns-in-None-clause-reportable c =
     let none = subst (IsLeast m s.ends.items s.bests.items) c.in-None.is c.next.ensures in
     let clean = has_clean_round p limit m inv.0 s inv.1 (none_enabled p limit m inv.0 s inv.1 none) in
     if_given (λ (o : Outcome). o.rows ≡ map (λ e. e.1.row) (keyed s.book)) (λ (o : Outcome). o.traps ≡ traps_from 0 s.histories.items) (λ (o : Outcome). o.waits ≡ waits_from 0 s.histories.items)
-    IsReportable (AreClean limit s.histories.items) (λ o rows traps waits are. is_reportable p limit m (clean are).0 (clean are).1 c.requires.limit.1 inv.0 s inv.1 o rows traps waits)
-    c.outcome.result c.outcome.ensures.rows c.outcome.ensures.traps c.outcome.ensures.waits c.outcome.ensures.clean
+    IsReportable (AskOnce s.histories.items) (λ o rows traps waits are. is_reportable p limit m (clean are).0 (clean are).1 c.requires.limit.1 inv.0 s inv.1 o rows traps waits)
+    c.outcome.result c.outcome.ensures.rows c.outcome.ensures.traps c.outcome.ensures.waits c.outcome.ensures.once
 
 pub returns-in-None-clause-clean : goal.returns-in-None-clause-clean
 returns-in-None-clause-clean c =
@@ -72,7 +72,7 @@ returns-in-None-clause-clean c =
     let s = c.loop-turn.state in
     let inv = c.loop-turn.invariant in
     let none = subst (IsLeast m s.ends.items s.bests.items) c.in-None.is c.next.ensures in
-    on_given (AreClean limit s.histories.items) (HasCleanRound p limit) (has_clean_round p limit m inv.0 s inv.1 (none_enabled p limit m inv.0 s inv.1 none)) c.outcome.result c.outcome.ensures.clean
+    on_given (AskOnce s.histories.items) (HasCleanRound p limit) (has_clean_round p limit m inv.0 s inv.1 (none_enabled p limit m inv.0 s inv.1 none)) c.outcome.result c.outcome.ensures.once
 
 pub returns-in-None-clause-stopped : goal.returns-in-None-clause-stopped
 returns-in-None-clause-stopped c =
@@ -81,7 +81,7 @@ returns-in-None-clause-stopped c =
     let m = c.args.machine.now in
     let s = c.loop-turn.state in
     let inv = c.loop-turn.invariant in
-    if_denied (AreClean limit s.histories.items) (HasCleanRound p limit) (are_clean p limit m inv.0 s inv.1) c.outcome.result c.outcome.ensures.stopped
+    if_denied (AskOnce s.histories.items) (HasCleanRound p limit) (asks_once p limit m inv.0 s inv.1) c.outcome.result c.outcome.ensures.stopped
 
 pub returns-clause-stopped : goal.returns-clause-stopped
 returns-clause-stopped c h =

@@ -179,8 +179,8 @@ renew-requires-clause-shallow c =
     let new_mails : c.deref.result.now ≡ c.deliver.new.mails = c.deref.ensures.value ∙ with_items_is s.mails c.deliver.new.mails (delivered.count ∙ sym s.mails.ok.0) in
     subst AreShallow (sym new_mails) (shallow_now p limit m small same bs s f few nx least can c.deliver.new.mails delivered)
 
-pub returns-in_err-renew-clause-stopped : goal.returns-in_err-renew-clause-stopped
-returns-in_err-renew-clause-stopped c =
+pub returns-in_err-size-clause-stopped : goal.returns-in_err-size-clause-stopped
+returns-in_err-size-clause-stopped c =
     let p = c.args.accepted.now.program in
     let limit = c.args.limit in
     let m = c.args.machine.now in
@@ -203,9 +203,9 @@ returns-in_err-renew-clause-stopped c =
     (subst (λ ms. AreDelivered c.deref_mut.result.now ms c.deliver.new.mails) sent_is c.in_ok-changed.ensures.delivered) in
     let kept : AreKept s.mails.items c.in_ok-changed.changed.items c.deliver.new.mails = subst (λ old. AreKept old c.in_ok-changed.changed.items c.deliver.new.mails) old_mails c.in_ok-changed.ensures.heard in
     let new_mails : c.deref.result.now ≡ c.deliver.new.mails = c.deref.ensures.value ∙ with_items_is s.mails c.deliver.new.mails (delivered.count ∙ sym s.mails.ok.0) in
-    let given = err_from_is_err_and c.from_residual-in_err-renew.result c.from_residual-in_err-renew.ensures.1 in
+    let given = err_from_is_err_and c.from_residual-in_err-size.result c.from_residual-in_err-size.ensures.1 in
     rw (given.1, given.2)
-    (denies_also _ _ (λ h. subst (AreShort p limit) (sym new_mails) (short_now p limit m small same bs s f few nx least c.deliver.new.mails delivered h)) c.in_err-renew.field-0.0 c.in_err-renew.ensures.stopped)
+    (denies_also _ _ (λ h. subst (AreShort p limit) (sym new_mails) (short_now p limit m small same bs s f few nx least c.deliver.new.mails delivered h)) c.in_err-size.field-0.0 c.in_err-size.ensures.stopped)
 
 pub renew-requires-clause-kept : goal.renew-requires-clause-kept
 renew-requires-clause-kept c =
@@ -313,7 +313,7 @@ choose-requires-clause-kept c =
     (subst (λ ms. AreDelivered c.deref_mut.result.now ms c.deliver.new.mails) sent_is c.in_ok-changed.ensures.delivered) in
     let kept : AreKept s.mails.items c.in_ok-changed.changed.items c.deliver.new.mails = subst (λ old. AreKept old c.in_ok-changed.changed.items c.deliver.new.mails) old_mails c.in_ok-changed.ensures.heard in
     let new_mails : c.deref.result.now ≡ c.deliver.new.mails = c.deref.ensures.value ∙ with_items_is s.mails c.deliver.new.mails (delivered.count ∙ sym s.mails.ok.0) in
-    let are : AreHistories p limit c.deliver.new.mails c.renew.new.histories = subst (λ ms. AreHistories p limit ms c.renew.new.histories) new_mails c.in_ok-renew.ensures.taken in
+    let are : AreHistories p limit c.deliver.new.mails c.renew.new.histories = subst (λ ms. AreHistories p limit ms c.renew.new.histories) new_mails c.in_ok-size.ensures.taken in
     let old_count : length s.histories.items ≡ p.chares = ap (λ hs. length hs) f.histories ∙ count_numbers (λ c'. history p limit c' (mail_to (messages bs) c')) p.chares 0 in
     let same_items = with_items_is s.histories c.renew.new.histories (are.count ∙ (delivered.count ∙ (f.chares ∙ (sym old_count ∙ sym s.histories.ok.0)))) in
     let new_histories : c.deref-3.result.now ≡ c.renew.new.histories = c.deref-3.ensures.value ∙ same_items in
@@ -346,16 +346,17 @@ returns-clause-follows c =
     (subst (λ ms. AreDelivered c.deref_mut.result.now ms c.deliver.new.mails) sent_is c.in_ok-changed.ensures.delivered) in
     let kept : AreKept s.mails.items c.in_ok-changed.changed.items c.deliver.new.mails = subst (λ old. AreKept old c.in_ok-changed.changed.items c.deliver.new.mails) old_mails c.in_ok-changed.ensures.heard in
     let new_mails : c.deref.result.now ≡ c.deliver.new.mails = c.deref.ensures.value ∙ with_items_is s.mails c.deliver.new.mails (delivered.count ∙ sym s.mails.ok.0) in
-    let are : AreHistories p limit c.deliver.new.mails c.renew.new.histories = subst (λ ms. AreHistories p limit ms c.renew.new.histories) new_mails c.in_ok-renew.ensures.taken in
+    let are : AreHistories p limit c.deliver.new.mails c.renew.new.histories = subst (λ ms. AreHistories p limit ms c.renew.new.histories) new_mails c.in_ok-size.ensures.taken in
     let old_count : length s.histories.items ≡ p.chares = ap (λ hs. length hs) f.histories ∙ count_numbers (λ c'. history p limit c' (mail_to (messages bs) c')) p.chares 0 in
     let same_items = with_items_is s.histories c.renew.new.histories (are.count ∙ (delivered.count ∙ (f.chares ∙ (sym old_count ∙ sym s.histories.ok.0)))) in
     let new_histories : c.deref-3.result.now ≡ c.renew.new.histories = c.deref-3.ensures.value ∙ same_items in
+    let size_is = c.in_ok-size.ensures.size in
     let home = home_is p limit m bs s f nx least same in
     let ends_are : slice_set s.ends.items nx.processor c.in_ok-begun.begun.row.end ≡ slice_set s.ends.items (home_of m nx.chare) (nx.start + duration_of m (now p limit m small same bs s f few nx least).block.cost) = λ i. slice_set s.ends.items (home i) ((begun_is i).row.end) in
     let bests_are : AreBest m c.put.new.self c.renew.new.histories c.choose.new.bests = subst (λ (hs : List History). AreBest m c.put.new.self hs c.choose.new.bests) new_histories c.in_ok-choose.ensures in
     let mail_items = with_items_is s.mails c.deliver.new.mails (delivered.count ∙ sym s.mails.ok.0) in
     let best_items = with_items_is s.bests c.choose.new.bests (bests_are.count ∙ (are.count ∙ (delivered.count ∙ (f.chares ∙ (sym (chares_here p limit m bs s f) ∙ sym s.bests.ok.0))))) in (
       now p limit m small same bs s f few nx least,
-      follows_now p limit m small same bs s f few nx least can c.put.new.self book_is c.deliver.new.mails c.in_ok-changed.changed.items delivered kept c.renew.new.histories are _ refl ends_are mail_items same_items
+      follows_now p limit m small same bs s f few nx least can c.put.new.self book_is c.deliver.new.mails c.in_ok-changed.changed.items delivered kept c.renew.new.histories are _ refl ends_are mail_items same_items size_is
           (subst (λ bests. AreBest m c.put.new.self c.renew.new.histories bests) (sym best_items) bests_are),
     )

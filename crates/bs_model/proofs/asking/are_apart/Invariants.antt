@@ -1,7 +1,7 @@
 use Rattle.std.proofs.Common.{drop}
 use Rattle.bs_semantics.specs.Rounds.{Apart, one_asked}
 use Rattle.bs_rounds.proofs.Asked.{has, Unlisted}
-use Rattle.bs_model.proofs.clean.are_apart.Given as goal
+use Rattle.bs_model.proofs.asking.are_apart.Given as goal
 
 abbrev pub invariant-loop-one : goal.invariant-loop-one
 invariant-loop-one l = record {

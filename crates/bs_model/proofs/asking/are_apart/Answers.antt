@@ -5,7 +5,7 @@ use Rattle.bs_log.specs.declared.history.Key.{Key}
 use Rattle.bs_match.specs.Mail.{key_cmp}
 use Rattle.bs_rounds.proofs.Items.{next_item, none_left, false_is}
 use Rattle.bs_rounds.proofs.Asked.{has, has_more, Unlisted, without, listed}
-use Rattle.bs_model.proofs.clean.are_apart.Goals as goal
+use Rattle.bs_model.proofs.asking.are_apart.Goals as goal
 
 pub loop-one-init : goal.loop-one-init
 loop-one-init c =
