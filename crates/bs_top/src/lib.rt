@@ -17,7 +17,13 @@ pub use perform::perform_alone;
 pub use status::Status;
 
 #[cfg(test)]
+mod agreement;
+#[cfg(test)]
+mod chares;
+#[cfg(test)]
 mod logs;
+#[cfg(test)]
+mod predictions;
 #[cfg(test)]
 mod runs;
 #[cfg(test)]

@@ -1,4 +1,4 @@
-// Programs of all forms, each with what `model` tells of it.
+// Programs of all forms, each with what `model` and `run` tell of it.
 use crate::tables::words;
 use crate::{Status, perform_alone};
 use bs_desk::{MemoryDesk, Port};
@@ -53,13 +53,15 @@ type Row = (
 
 fn are_run(rt: &(impl Abort + AllocGlobal), rows: &[Row]) -> Result<(), Fail> {
     for (program, machine, limit, status, text) in rows {
-        is_run(rt, program, machine, limit, *status, text)?;
+        is_run(rt, "model", program, machine, limit, *status, text)?;
+        is_run(rt, "run", program, machine, limit, *status, text)?;
     }
     Ok(())
 }
 
 fn is_run(
     rt: &(impl Abort + AllocGlobal),
+    command: &'static str,
     program: &str,
     machine: &str,
     limit: &str,
@@ -70,7 +72,7 @@ fn is_run(
     desk.put_file("p", program.as_bytes())?;
     desk.put_file("corners", CORNERS.as_bytes())?;
     desk.put_file("slow", SLOW.as_bytes())?;
-    let words = words(rt.alloc(), &["model", "p", machine, "--limit", limit])?;
+    let words = words(rt.alloc(), &[command, "p", machine, "--limit", limit])?;
     assert_eq!(rt;
         perform_alone(rt.alloc(), words.as_slice(), &mut desk),
         status,
