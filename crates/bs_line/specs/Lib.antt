@@ -1,0 +1,5 @@
+pub mod Places
+pub mod Layout
+pub mod Making
+pub mod Listing
+pub mod Line
