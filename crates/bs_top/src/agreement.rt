@@ -44,7 +44,7 @@ bytes_den = 8
 
 const MACHINES: [&str; 4] = ["flat:1:3", "flat:2:5", "b", "s"];
 
-// Programs with a blank line between two of them. Each is clean.
+// 24 programs with a blank line between two of them. Each is clean.
 const PROGRAMS: &str = "// Blocks alone.
 chares 1; body { serial { } }
 
@@ -139,36 +139,61 @@ fn desk_with(alloc: Global, program: &str) -> Result<MemoryDesk, AllocError> {
     Ok(desk)
 }
 
-// One program on one machine, three ways.
-fn is_one_text(rt: &(impl Abort + AllocGlobal), program: &str, machine: &str) -> Result<(), Fail> {
-    let alloc = rt.alloc();
-    let mut model = desk_with(alloc, program)?;
-    let status = performed(alloc, &mut model, &["model", "p", machine])?;
-    assert!(rt; matches!(status, Status::Settled | Status::Deadlock | Status::Trapped));
-    let mut run = desk_with(alloc, program)?;
-    let ran = performed(alloc, &mut run, &["run", "p", machine])?;
-    assert_eq!(rt; ran, status, "{program}");
+// What a command says of a program on a machine: its status, and the desk with what it wrote.
+fn told(
+    alloc: Global,
+    command: &'static str,
+    program: &str,
+    machine: &str,
+) -> Result<(Status, MemoryDesk), AllocError> {
+    let mut desk = desk_with(alloc, program)?;
+    let status = performed(alloc, &mut desk, &[command, "p", machine])?;
+    Ok((status, desk))
+}
+
+// What is predicted on a machine from the written log of a program, where both ends are the same.
+fn foretold(alloc: Global, program: &str, machine: &str) -> Result<(Status, MemoryDesk), Fail> {
+    let mut desk = desk_with(alloc, program)?;
+    let emulated = performed(alloc, &mut desk, &["emulate", "p", "l"])?;
+    let status = performed(alloc, &mut desk, &["predict", "l", machine])?;
+    if emulated != status {
+        return Err("the log ends in another way".into());
+    }
+    Ok((status, desk))
+}
+
+fn are_alike(
+    rt: &(impl Abort + AllocGlobal),
+    program: &str,
+    one: &(Status, MemoryDesk),
+    other: &(Status, MemoryDesk),
+) -> Result<(), Fail> {
+    assert_eq!(rt; one.0, other.0, "{program}");
     assert_eq!(rt;
-        run.written(Port::Out),
-        model.written(Port::Out),
-        "{program}"
-    );
-    let mut later = desk_with(alloc, program)?;
-    let emulated = performed(alloc, &mut later, &["emulate", "p", "l"])?;
-    assert_eq!(rt; emulated, status, "{program}");
-    let predicted = performed(alloc, &mut later, &["predict", "l", machine])?;
-    assert_eq!(rt; predicted, status, "{program}");
-    assert_eq!(rt;
-        later.written(Port::Out),
-        model.written(Port::Out),
+        one.1.written(Port::Out),
+        other.1.written(Port::Out),
         "{program}"
     );
     Ok(())
 }
 
+// One program on one machine, three ways.
+fn is_one_text(rt: &(impl Abort + AllocGlobal), program: &str, machine: &str) -> Result<(), Fail> {
+    let model = told(rt.alloc(), "model", program, machine)?;
+    if !matches!(
+        model.0,
+        Status::Settled | Status::Deadlock | Status::Trapped
+    ) {
+        return Err("the program isn't clean".into());
+    }
+    let run = told(rt.alloc(), "run", program, machine)?;
+    are_alike(rt, program, &run, &model)?;
+    let prediction = foretold(rt.alloc(), program, machine)?;
+    are_alike(rt, program, &prediction, &model)
+}
+
 #[test]
 fn one_text_three_ways(rt: HostRuntime) -> Result<(), Fail> {
-    assert_eq!(rt; PROGRAMS.split("\n\n").count(), 24);
     for program in PROGRAMS.split("\n\n") {
         for machine in MACHINES {
             is_one_text(&rt, program, machine)?;

@@ -1,8 +1,14 @@
 // A chare that is sent one key twice.
+ghost use Rattle.std.specs.Prelude.{◌≡◌, ◌<◌, IfOk, IsTrue};
+ghost use Rattle.bs_chare.specs.Chare.{IsProper};
+
 use crate::steps::accepted;
 use bs_chare::{Chare, ChareFault};
+use bs_check::Accepted;
 use bs_desk::MemoryDesk;
 use bs_log::Message;
+use bs_tree::List;
+use std::alloc::Global;
 use std::process::Abort;
 use std::test::Fail;
 
@@ -10,6 +16,55 @@ const SENT_TWICE: &str = "chares 2; var x; entry go(1);
 body { if (this == 0) { serial { send go[0](1) to 1; } serial { send go[0](2) to 1; } }
   else { when go[0](x) { serial { emit x; } } } }
 ";
+
+// What a chare sends when it is begun.
+fn first_sends(alloc: Global, accepted: &Accepted, number: u32) -> Result<List<Message>, Fail>
+    requires { number < accepted.now.program.chares }
+{
+    let mut chare = Chare::new(alloc, accepted, number, 262_144);
+    match chare.begin(alloc) {
+        Ok(sent) => Ok(sent),
+        Err(_) => Err("not begun".into()),
+    }
+}
+
+// Whether a chare can be given the message.
+fn is_proper(message: &Message, number: u32) -> bool
+    ensures { IsTrue result → IsProper number message.now }
+{
+    message.sent.to == number && message.origin.depth <= 262_144
+}
+
+// A chare that was begun, and then took a message.
+fn begun_with<'p>(
+    alloc: Global,
+    accepted: &'p Accepted,
+    number: u32,
+    message: Message,
+) -> Result<Chare<'p>, Fail>
+    requires number { number < accepted.now.program.chares }
+    requires proper { IsProper number message }
+    ensures { IfOk result (λ chare. chare.number ≡ number) }
+{
+    let mut chare = Chare::new(alloc, accepted, number, 262_144);
+    if chare.begin(alloc).is_err() {
+        return Err("not begun".into());
+    }
+    if chare.accept(alloc, message).is_err() {
+        return Err("not taken".into());
+    }
+    Ok(chare)
+}
+
+// Gives a message to a chare that hands it back.
+fn handed_back(alloc: Global, chare: &mut Chare<'_>, message: Message) -> Result<Message, Fail>
+    requires { IsProper chare.old.number message }
+{
+    match chare.accept(alloc, message) {
+        Err(ChareFault::TwoSent(back)) => Ok(back),
+        _ => Err("it isn't handed back".into()),
+    }
+}
 
 // Both chares are the same as far as their calls tell.
 fn are_alike(
@@ -43,21 +98,15 @@ fn a_message_that_comes_back(rt: HostRuntime) -> Result<(), Fail> {
         .ok()
         .ok_or("not accepted")?;
     assert_eq!(rt; accepted.chares(), 2);
-    let mut sender = Chare::new(rt.alloc(), &accepted, 0, 262_144);
-    let mut messages = sender.begin(rt.alloc()).ok().ok_or("not begun")?.into_vec();
-    let second = messages.pop().ok_or("no second message")?;
-    let first = messages.pop().ok_or("no first message")?;
-    assert!(rt; first.sent.to == 1 && first.origin.depth <= 262_144);
-    assert!(rt; second.sent.to == 1 && second.origin.depth <= 262_144);
-    let mut chare = Chare::new(rt.alloc(), &accepted, 1, 262_144);
-    let news = chare.begin(rt.alloc()).ok().ok_or("not begun")?;
-    assert_eq!(rt; news.as_slice().len(), 0);
-    let news = chare.accept(rt.alloc(), first).ok().ok_or("not taken")?;
-    assert_eq!(rt; news.as_slice().len(), 0);
+    let mut sent = first_sends(rt.alloc(), &accepted, 0)?.into_vec();
+    let second = sent.pop().ok_or("no second message")?;
+    let first = sent.pop().ok_or("no first message")?;
+    if !is_proper(&first, 1) || !is_proper(&second, 1) {
+        return Err("sent to another chare".into());
+    }
+    let mut chare = begun_with(rt.alloc(), &accepted, 1, first)?;
     let copy = chare.copy(rt.alloc())?;
-    let Err(ChareFault::TwoSent(back)) = chare.accept(rt.alloc(), second) else {
-        return Err("the second message is taken".into());
-    };
+    let back = handed_back(rt.alloc(), &mut chare, second)?;
     assert_eq!(rt; back.args.as_slice(), [2].as_slice());
     are_alike(&rt, &chare, &copy, &back)
 }
