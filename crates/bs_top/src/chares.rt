@@ -47,13 +47,14 @@ fn begun_with<'p>(
     ensures { IfOk result (λ chare. chare.number ≡ number) }
 {
     let mut chare = Chare::new(alloc, accepted, number, 262_144);
-    if chare.begin(alloc).is_err() {
-        return Err("not begun".into());
+    match chare.begin(alloc) {
+        Ok(_) => {}
+        Err(_) => return Err("not begun".into()),
     }
-    if chare.accept(alloc, message).is_err() {
-        return Err("not taken".into());
+    match chare.accept(alloc, message) {
+        Ok(_) => Ok(chare),
+        Err(_) => Err("not taken".into()),
     }
-    Ok(chare)
 }
 
 // Gives a message to a chare that hands it back.
