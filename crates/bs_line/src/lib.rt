@@ -21,3 +21,6 @@ pub use corrections::Correction;
 pub use layout::{Layout, Out};
 pub use line::{Differs, Line};
 pub use making::Estimate;
+
+#[cfg(test)]
+mod tests;
