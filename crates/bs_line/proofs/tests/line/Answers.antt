@@ -1,4 +1,4 @@
-use Rattle.std.proofs.Common.{◌≡◌, ◌<◌, ◌^◌, ◌⊎◌, inl, inr, ◌∙◌, ℕ, zero, suc, List, length, replicate, ap, subst, sym, arith, rules}
+use Rattle.std.proofs.Common.{◌≡◌, inl, inr, ◌∙◌, ℕ, zero, suc, length, replicate, ap, subst, arith, rules}
 use Rattle.std.proofs.lemmas.List.{length-replicate}
 use Rattle.bs_log.specs.ClosedTest.{Mem}
 use Rattle.bs_num.specs.declared.ticks.Tick.{Tick}
