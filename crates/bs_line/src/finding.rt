@@ -1,4 +1,7 @@
-// Rows and sends of a valid log by their numbers, and how long they take on a machine.
+//! Rows and sends of a valid log by their numbers, and how long they take on a machine.
+//!
+//! Rows are numbered from 1, and so are the sends of a row; processors are numbered from 0. Times are in
+//! ticks. No call takes memory.
 ghost use Rattle.std.specs.Prelude.{◌≡◌, ◌<◌, ◌≤◌, ◌^◌, length, unwrap_or};
 ghost use Rattle.bs_log.specs.Valid.{IsValid, numbered};
 ghost use Rattle.bs_machine.specs.Fitted.{processors_of};
@@ -9,8 +12,8 @@ ghost use Rattle.bs_line.specs.Layout.{net_on};
 use bs_log::{Log, MailRef, Row, Sent};
 use bs_machine::Fitted;
 
-// How many rows there are.
-pub(crate) fn count(log: &Log) -> u32
+/// How many rows there are, from 0 to 262,144.
+pub fn count(log: &Log) -> u32
     requires { IsValid log.now }
     ensures value { result ≡ length log.now.rows }
     ensures few { result ≤ 262144 }
@@ -18,8 +21,8 @@ pub(crate) fn count(log: &Log) -> u32
     log.rows.as_slice().len() as u32
 }
 
-// The row of a number, counted from 1.
-pub(crate) fn row_at(log: &Log, number: u32) -> &Row
+/// The row of a number.
+pub fn row_at(log: &Log, number: u32) -> &Row
     requires some { 1 ≤ number }
     requires most { number ≤ length log.now.rows }
     ensures { result.now ≡ row_of log.now number }
@@ -36,17 +39,17 @@ fn send_at(row: &Row, index: u32) -> Sent
     row.sends.as_slice()[(index - 1) as usize]
 }
 
-// The send that a message cause names.
-fn sent_at(log: &Log, mail: MailRef) -> Sent
+/// The send that a message cause names.
+pub fn sent_at(log: &Log, mail: MailRef) -> Sent
     requires { IsSend log.now mail }
     ensures { result ≡ sent_of log.now mail }
 {
     send_at(row_at(log, mail.row), mail.index)
 }
 
-// The processor of a row.
+/// The processor of a row, on a machine that was fitted to the log's chares.
 #[tactic(auto, unfolding(bs_times::specs::Machine::machine_of))]
-pub(crate) fn home(log: &Log, machine: &Fitted, number: u32) -> u32
+pub fn home(log: &Log, machine: &Fitted, number: u32) -> u32
     requires valid { IsValid log.now }
     requires fitted { machine.now.chares ≡ log.now.chares }
     requires some { 1 ≤ number }
@@ -57,9 +60,9 @@ pub(crate) fn home(log: &Log, machine: &Fitted, number: u32) -> u32
     machine.home(row_at(log, number).chare)
 }
 
-// How many ticks a row takes.
+/// How many ticks a row takes, from 1 to 2^48 - 1.
 #[tactic(auto, unfolding(bs_times::specs::Machine::machine_of))]
-pub(crate) fn duration(log: &Log, machine: &Fitted, number: u32) -> u64
+pub fn duration(log: &Log, machine: &Fitted, number: u32) -> u64
     requires valid { IsValid log.now }
     requires some { 1 ≤ number }
     requires most { number ≤ length log.now.rows }
@@ -69,9 +72,9 @@ pub(crate) fn duration(log: &Log, machine: &Fitted, number: u32) -> u64
     machine.duration(row_at(log, number).cost)
 }
 
-// The processor that a message goes to.
+/// The processor that a message goes to.
 #[tactic(auto, unfolding(bs_times::specs::Machine::machine_of))]
-pub(crate) fn goes_to(log: &Log, machine: &Fitted, mail: MailRef) -> u32
+pub fn goes_to(log: &Log, machine: &Fitted, mail: MailRef) -> u32
     requires valid { IsValid log.now }
     requires fitted { machine.now.chares ≡ log.now.chares }
     requires is_send { IsSend log.now mail }
@@ -81,9 +84,9 @@ pub(crate) fn goes_to(log: &Log, machine: &Fitted, mail: MailRef) -> u32
     machine.home(sent_at(log, mail).to)
 }
 
-// How many ticks after its sender's start a message arrives: the duration of its offset, and its latency.
+/// How many ticks after its sender's start a message arrives: the duration of its offset, and its latency.
 #[tactic(auto, unfolding(bs_times::specs::Machine::machine_of))]
-pub(crate) fn travel(log: &Log, machine: &Fitted, mail: MailRef) -> u64
+pub fn travel(log: &Log, machine: &Fitted, mail: MailRef) -> u64
     requires valid { IsValid log.now }
     requires fitted { machine.now.chares ≡ log.now.chares }
     requires is_send { IsSend log.now mail }

@@ -8,7 +8,7 @@
 mod bases;
 mod choosing;
 mod corrections;
-mod finding;
+pub mod finding;
 pub mod laws;
 mod layout;
 mod line;

@@ -13,7 +13,7 @@ use Rattle.bs_schedule.specs.Plan.{AreRows, IsSchedule, at}
 use Rattle.bs_schedule.proofs.Relabel.{whole_schedule}
 use Rattle.bs_schedule.specs.Whole.{IsWholePlan, block_cause, mail_cause, causes_in}
 use Rattle.bs_times.specs.Machine.{machine_of}
-use Rattle.bs_times.specs.Net.{Net, Causal, HasRow, row_of, sent_of}
+use Rattle.bs_times.specs.Net.{Causal, HasRow, row_of, sent_of}
 use Rattle.bs_times.proofs.Causal.{causal_net, fitted_is_timely}
 use Rattle.bs_times.proofs.Found.{row_fits, send_fits}
 use Rattle.bs_times.proofs.Members.{cases_le, mem_cases, map_mem}

@@ -1,2 +1,11 @@
 pub mod Planned
 pub mod Timed
+pub mod Lines
+pub mod Changes
+pub mod Field
+pub mod Holding
+pub mod Gathering
+pub mod Settled
+pub mod Refreshing
+pub mod Shares
+pub mod Making

@@ -89,6 +89,18 @@ pub(crate) fn mail_cause(log: &Log, machine: &Fitted, mail: MailRef) -> Cause
     }
 }
 
+// The processor that a message goes to.
+#[tactic(auto, unfolding(bs_times::specs::Machine::machine_of))]
+pub(crate) fn goes_to(log: &Log, machine: &Fitted, mail: MailRef) -> u32
+    requires valid { IsValid log.now }
+    requires fitted { machine.now.chares ≡ log.now.chares }
+    requires is_send { IsSend log.now mail }
+    ensures value { result ≡ (net_on log.now machine.now).goes_to mail }
+    ensures below { result < processors_of machine.now }
+{
+    machine.home(sent_at(log, mail).to)
+}
+
 #[tactic(auto, unfolding(bs_times::specs::Machine::machine_of))]
 fn travel(log: &Log, machine: &Fitted, mail: MailRef) -> u64
     requires valid { IsValid log.now }

@@ -1,11 +1,26 @@
-//! The times of a log on a machine: the one consistent table of starts.
+//! The times of a log on a machine: the one consistent table of starts, and its ends.
 //!
-//! `plain_times` computes it in one pass over the rows, in the order of their ready ticks.
-//! `docs/model.md` says what a consistent table is, and `bs_times` that there is exactly one.
+//! `plain_times` computes it in one pass over the rows, in the order of their ready ticks. A `Field` has
+//! the lines of all processors, and comes to the same from estimates, by waves of corrections.
+//! `docs/model.md` says what a consistent table and a wave are, and `bs_times` that there is exactly one
+//! such table, and that waves come to it.
 #![tactic(auto)]
 
+mod field;
 mod finding;
+mod gathering;
+mod holding;
 mod log_plan;
+mod making;
+mod settling;
+mod shares;
 mod times;
+mod waves;
 
+pub use bs_line::Correction;
+pub use field::{Estimates, Field};
+pub use settling::{BudgetSpent, SettleFault};
 pub use times::{Times, plain_times};
+
+#[cfg(test)]
+mod tests;

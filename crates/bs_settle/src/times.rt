@@ -1,5 +1,5 @@
 // The consistent table of a log.
-ghost use Rattle.std.specs.Prelude.{◌≡◌, ◌+◌, ◌≤◌, ◌^◌, ℕ, IfOk, length};
+ghost use Rattle.std.specs.Prelude.{◌≡◌, ◌+◌, ◌<◌, ◌^◌, ℕ, IfOk, length};
 ghost use Rattle.bs_log.specs.Valid.{IsValid};
 ghost use Rattle.bs_schedule.specs.Plan.{at};
 ghost use Rattle.bs_times.specs.Machine.{machine_of};
@@ -44,7 +44,7 @@ pub fn plain_times(alloc: Global, log: &Log, machine: &Fitted) -> Result<Times, 
 }
 
 // The times of rows that start at these ticks, by number.
-fn timed_rows(
+pub(crate) fn timed_rows(
     alloc: Global,
     log: &Log,
     machine: &Fitted,
@@ -52,7 +52,7 @@ fn timed_rows(
 ) -> Result<Times, AllocError>
     requires valid { IsValid log.now }
     requires each { length starts.now ≡ length log.now.rows + 1 }
-    requires early { (i : ℕ) → at starts.now i ≤ 2 ^ 100 }
+    requires early { (i : ℕ) → at starts.now i < 2 ^ 109 }
     ensures starts { IfOk result (λ times. numbers times.starts ≡ starts_from (at starts.now) 1 log.now.rows) }
     ensures ends { IfOk result (λ times. numbers times.ends ≡ ends_from (machine_of machine.now) (at starts.now) 1 log.now.rows) }
 {

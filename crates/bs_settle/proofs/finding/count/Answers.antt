@@ -1,4 +1,4 @@
-use Rattle.std.proofs.Common.{rules, arith, ap, length}
+use Rattle.std.proofs.Common.{arith, ap, length}
 use Rattle.bs_settle.proofs.Numbered.{rows_few}
 use Rattle.bs_settle.proofs.finding.count.Goals as goal
 

@@ -1,4 +1,4 @@
-use Rattle.std.proofs.Common.{◌<◌, ℕ, subst, sym, arith, ap}
+use Rattle.std.proofs.Common.{arith, ap}
 use Rattle.bs_times.proofs.Found.{row_fits}
 use Rattle.bs_settle.proofs.finding.home.Goals as goal
 

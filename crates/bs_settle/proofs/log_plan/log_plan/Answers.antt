@@ -1,5 +1,4 @@
-use Rattle.std.proofs.Common.{◌≡◌, ◌∙◌, subst, sym, rules}
-use Rattle.bs_schedule.specs.Plan.{AreRows}
+use Rattle.std.proofs.Common.{◌∙◌}
 use Rattle.bs_settle.proofs.Whole.{are_rows, whole}
 use Rattle.bs_settle.proofs.log_plan.log_plan.Goals as goal
 

@@ -1,5 +1,5 @@
-use Rattle.std.proofs.Common.{◌≡◌, ◌≤◌, ◌+◌, ◌*◌, ◌^◌, ◌∙◌, ℕ, List, length, replicate, ap, subst, sym, rules}
-use Rattle.bs_schedule.specs.Plan.{at, IsSchedule}
+use Rattle.std.proofs.Common.{◌≡◌, ◌<◌, ◌^◌, ◌∙◌, ℕ, ap, subst, sym, arith, rules}
+use Rattle.bs_schedule.specs.Plan.{at}
 use Rattle.bs_settle.proofs.Listed.{zeros}
 use Rattle.bs_settle.proofs.Whole.{are_times, starts_small}
 use Rattle.bs_settle.proofs.times.plain_times.Goals as goal
@@ -9,7 +9,7 @@ timed_rows-requires-clause-early c i =
     let e = c.deref.ensures.value ∙ c.in_ok-base.ensures.items_if_clones_equal (search rules) in
     let none : (i : ℕ) → at c.deref.result.now i ≡ 0 = λ i. ap (λ xs. at xs i) e ∙ zeros _ i in
     let small = starts_small c.args.log.now c.args.machine.now c.in_ok-plan.plan c.deref.result.now c.in_ok-starts.starts.items c.requires.valid c.in_ok-plan.ensures.whole none c.in_ok-starts.ensures.bound in
-    subst (λ xs. at xs i ≤ 2 ^ 100) (sym c.deref-2.ensures.value) (small i)
+    subst (λ xs. at xs i < 2 ^ 109) (sym c.deref-2.ensures.value) (omega (arith, small i))
 
 pub returns : goal.returns
 returns c =

@@ -1,4 +1,4 @@
-use Rattle.std.proofs.Common.{◌≡◌, ◌<◌, ◌+◌, ◌∙◌, ℕ, length, refl, ap, arith, rules}
+use Rattle.std.proofs.Common.{◌<◌, ◌+◌, ◌∙◌, ℕ, length, refl, ap, arith, rules}
 use Rattle.bs_schedule.specs.Plan.{at}
 use Rattle.bs_times.specs.Machine.{machine_of}
 use Rattle.bs_times.specs.Net.{no_row}

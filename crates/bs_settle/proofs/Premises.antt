@@ -1,0 +1,16 @@
+-- What the laws of times want is so of a valid log on a fitted machine.
+use Rattle.bs_log.specs.declared.log.Log.{Log}
+use Rattle.bs_log.specs.Valid.{IsValid}
+use Rattle.bs_machine.specs.declared.fitted.Fitted.{Fitted}
+use Rattle.bs_times.specs.Machine.{machine_of}
+use Rattle.bs_times.specs.Net.{Causal}
+use Rattle.bs_times.specs.Bounds.{IsShort}
+use Rattle.bs_times.proofs.Causal.{causal_net, fitted_is_timely}
+use Rattle.bs_times.proofs.Small.{short_net}
+use Rattle.bs_settle.specs.Planned.{net_on}
+
+pub causal : (log : Log) (m : Fitted) → IsValid log → Causal (net_on log m)
+causal log m v = causal_net log (machine_of m) v (fitted_is_timely m)
+
+pub short : (log : Log) (m : Fitted) → IsValid log → IsShort (net_on log m)
+short log m v = short_net log (machine_of m) v (fitted_is_timely m)
