@@ -1,4 +1,4 @@
-mod Ordered
+pub mod Ordered
 mod Counted
 mod Rows
 mod Tables

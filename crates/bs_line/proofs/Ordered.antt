@@ -109,34 +109,34 @@ stands_from {A} same t R xs x k d o m lt deny = go (cases_lt (place_in same xs x
     go (inl h) = absurd (deny (subst (λ z. R z (get_or xs k d)) (found.1 d) (in_order_at R xs (place_in same xs x) k d o h lt)))
     go (inr h) = h
 
--- two lists of messages that rise are one, if they have the same messages.
-pub one_list : (ms ns : List MailRef) → InOrder IsLower ms → InOrder IsLower ns → ((m : MailRef) → Mem m ms → Mem m ns) → ((m : MailRef) → Mem m ns → Mem m ms) → ms ≡ ns
-one_list [] [] o q f g = refl
-one_list [] (n ∷ ns) o q f g = absurd (g n (inl refl))
-one_list (m ∷ ms) [] o q f g = absurd (f m (inl refl))
-one_list (m ∷ ms) (n ∷ ns) o q f g = rw (first, one_list ms ns o.1 q.1 there back) refl
+-- two lists that rise are one, if they have the same items.
+pub one_list : {A : Type 0} (R : A → A → Type 0) (back : (x y : A) → R x y → R y x → ⊥) (xs ys : List A) → InOrder R xs → InOrder R ys → ((x : A) → Mem x xs → Mem x ys) → ((x : A) → Mem x ys → Mem x xs) → xs ≡ ys
+one_list R back [] [] o q f g = refl
+one_list R back [] (y ∷ ys) o q f g = absurd (g y (inl refl))
+one_list R back (x ∷ xs) [] o q f g = absurd (f x (inl refl))
+one_list {A} R back (x ∷ xs) (y ∷ ys) o q f g = rw (first, one_list R back xs ys o.1 q.1 there before) refl
   where
-    heads : (m ≡ n) ⊎ Mem m ns → (n ≡ m) ⊎ Mem n ms → m ≡ n
+    heads : (x ≡ y) ⊎ Mem x ys → (y ≡ x) ⊎ Mem y xs → x ≡ y
     heads (inl e) h = e
     heads (inr k) (inl e) = sym e
-    heads (inr k) (inr h) = absurd (lower_back n m (q.0 m k) (o.0 n h))
+    heads (inr k) (inr h) = absurd (back y x (q.0 x k) (o.0 y h))
 
-    first : m ≡ n
-    first = heads (f m (inl refl)) (g n (inl refl))
+    first : x ≡ y
+    first = heads (f x (inl refl)) (g y (inl refl))
 
-    behind : (x : MailRef) → IsLower m x → (x ≡ n) ⊎ Mem x ns → Mem x ns
-    behind x h (inl e) = absurd (let l : IsLower m m = subst (λ z. IsLower m z) (e ∙ sym first) h in lower_back m m l l)
-    behind x h (inr k) = k
+    behind_y : (z : A) → R x z → (z ≡ y) ⊎ Mem z ys → Mem z ys
+    behind_y z h (inl e) = absurd (let l : R x x = subst (λ w. R x w) (e ∙ sym first) h in back x x l l)
+    behind_y z h (inr k) = k
 
-    before : (x : MailRef) → IsLower n x → (x ≡ m) ⊎ Mem x ms → Mem x ms
-    before x h (inl e) = absurd (let l : IsLower n n = subst (λ z. IsLower n z) (e ∙ first) h in lower_back n n l l)
-    before x h (inr k) = k
+    behind_x : (z : A) → R y z → (z ≡ x) ⊎ Mem z xs → Mem z xs
+    behind_x z h (inl e) = absurd (let l : R y y = subst (λ w. R y w) (e ∙ first) h in back y y l l)
+    behind_x z h (inr k) = k
 
-    there : (x : MailRef) → Mem x ms → Mem x ns
-    there x k = behind x (o.0 x k) (f x (inr k))
+    there : (z : A) → Mem z xs → Mem z ys
+    there z k = behind_y z (o.0 z k) (f z (inr k))
 
-    back : (x : MailRef) → Mem x ns → Mem x ms
-    back x k = before x (q.0 x k) (g x (inr k))
+    before : (z : A) → Mem z ys → Mem z xs
+    before z k = behind_x z (q.0 z k) (g z (inr k))
 
 pub one_mails : (P : MailRef → Type 0) (ms ns : List MailRef) → AreMails P ms → AreMails P ns → ms ≡ ns
-one_mails P ms ns h k = one_list ms ns h.rises k.rises (λ m i. (k.all m).0 ((h.all m).1 i)) (λ m i. (h.all m).0 ((k.all m).1 i))
+one_mails P ms ns h k = one_list IsLower lower_back ms ns h.rises k.rises (λ m i. (k.all m).0 ((h.all m).1 i)) (λ m i. (h.all m).0 ((k.all m).1 i))

@@ -20,3 +20,5 @@ mod Mails
 mod Shared
 mod Made
 mod Early
+mod WaveLists
+mod OneNoting

@@ -10,12 +10,17 @@ use Rattle.bs_times.specs.Racing.{IsDirty, Raced, World}
 use Rattle.bs_times.proofs.Members.{cases_le}
 use Rattle.bs_times.proofs.Repeated.{same_wave, some_waves}
 use Rattle.bs_times.proofs.Settles.{stays_still}
+use Rattle.bs_num.specs.declared.ticks.Tick.{Tick}
+use Rattle.bs_times.specs.Machine.{machine_of}
+use Rattle.bs_times.proofs.Causal.{fitted_is_timely}
+use Rattle.bs_times.proofs.Whole.{waves}
 use Rattle.bs_line.specs.declared.corrections.Correction.{Correction}
 use Rattle.bs_settle.specs.declared.field.Field.{Field}
+use Rattle.bs_settle.specs.declared.settling.BudgetSpent.{BudgetSpent}
 use Rattle.bs_settle.specs.Changes.{AreChanges, ChangesRise, HasChange, IsChange}
 use Rattle.bs_settle.specs.Field.{FitsAsBefore, IsField, net_in, ticks_of, world_of}
 use Rattle.bs_settle.specs.Planned.{net_on}
-use Rattle.bs_settle.specs.Settled.{AreWithin, ChangesAt, IsLeastChange, OfWaves, StillAt}
+use Rattle.bs_settle.specs.Settled.{AreWithin, ChangesAt, IsLeastChange, IsSpent, OfWaves, StillAt}
 use Rattle.bs_settle.proofs.Premises.{causal}
 
 -- the field after n waves: its ticks are those of the waves, and if there was one, it changed the message of `last` first
@@ -158,3 +163,14 @@ budget_done s now waves last d some = go d.last_is
     go : (waves ≡ 0) ⊎ ((c : Correction) × (last ≡ Some c) × ChangesAt (net_in s) (ticks_of s) waves c.mail c.was.0 c.tick.0) → AreWithin s now waves last
     go (inl e) = absurd (omega (arith, e, some))
     go (inr (x, e, h)) = subst (AreWithin s now waves) (sym e) h
+
+-- what is told of it then.
+pub budget_spent : (s : Field) → IsField s → (most : ℕ) (change : Correction) (told : BudgetSpent) → 1 ≤ most → ChangesAt (net_in s) (ticks_of s) most change.mail change.was.0 change.tick.0 → told.waves ≡ most → told.mail ≡ change.mail → told.kept ≡ change.was → told.due ≡ change.tick → IsSpent (net_in s) (ticks_of s) most told
+budget_spent s f most change told some last e mail kept due = record {
+  waves = e;
+  some = some;
+  few = spent_few (net_in s) (ticks_of s) most change.mail change.was.0 change.tick.0 (causal s.log.now s.machine.now f.valid) (waves s.log.now (machine_of s.machine.now) f.valid (fitted_is_timely s.machine.now)) some last;
+  last = subst (λ m. ChangesAt (net_in s) (ticks_of s) most m told.kept.0 told.due.0) (sym mail)
+      (subst (λ (t : Tick). ChangesAt (net_in s) (ticks_of s) most change.mail t.0 told.due.0) (sym kept)
+      (subst (λ (t : Tick). ChangesAt (net_in s) (ticks_of s) most change.mail change.was.0 t.0) (sym due) last));
+}

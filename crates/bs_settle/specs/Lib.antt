@@ -6,6 +6,7 @@ pub mod Field
 pub mod Holding
 pub mod Gathering
 pub mod Settled
+pub mod Noted
 pub mod Refreshing
 pub mod Shares
 pub mod Making

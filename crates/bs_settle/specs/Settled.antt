@@ -1,5 +1,5 @@
 -- What the waves of a field come to (docs/model.md).
-use Rattle.std.specs.Prelude.{◌≡◌, ◌≢◌, ◌<◌, ◌⊎◌, ℕ, suc, Option, Some, None}
+use Rattle.std.specs.Prelude.{◌≡◌, ◌≢◌, ◌≤◌, ◌<◌, ◌⊎◌, ℕ, suc, Option, Some, None}
 use Rattle.bs_log.specs.declared.log.MailRef.{MailRef}
 use Rattle.bs_log.specs.Rising.{IsLower}
 use Rattle.bs_times.specs.Net.{Net, Ticks}
@@ -36,9 +36,10 @@ StillAt net estimates n = OfWaves net estimates (λ ticks. (k : ℕ) → suc k �
 abbrev pub ChangesAt : Net → Ticks → ℕ → MailRef → ℕ → ℕ → Type 0
 ChangesAt net estimates n mail kept due = OfWaves net estimates (λ ticks. (k : ℕ) → suc k ≡ n → IsLeastChange net (ticks k) (ticks (suc k)) mail kept due)
 
--- the budget isn't enough: its last wave still changes a tick
+-- the budget isn't enough: it has a last wave, which still changes a tick
 pub record IsSpent (net : Net) (estimates : Ticks) (most : ℕ) (s : BudgetSpent) : Type 0 where
   pub waves : s.waves ≡ most
+  pub some : 1 ≤ most
   pub few : most < budget net
   pub last : ChangesAt net estimates most s.mail s.kept.0 s.due.0
 

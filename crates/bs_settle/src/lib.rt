@@ -10,8 +10,10 @@ mod field;
 mod finding;
 mod gathering;
 mod holding;
+pub mod laws;
 mod log_plan;
 mod making;
+mod noting;
 mod settling;
 mod shares;
 mod times;
@@ -19,6 +21,7 @@ mod waves;
 
 pub use bs_line::Correction;
 pub use field::{Estimates, Field};
+pub use noting::Noted;
 pub use settling::{BudgetSpent, SettleFault};
 pub use times::{Times, plain_times};
 

@@ -70,16 +70,10 @@ impl<'l> Field<'l> {
     {
         match self.settle_within(alloc, budget)? {
             None => {
-                let starts = self.starts(alloc)?;
-                let times = timed_rows(alloc, self.log, self.machine, &starts)?;
+                let times = self.times(alloc)?;
                 Ok(times)
             }
-            Some(change) => Err(SettleFault::BudgetSpent(BudgetSpent {
-                waves: budget,
-                mail: change.mail,
-                kept: change.was,
-                due: change.tick,
-            })),
+            Some(change) => Err(SettleFault::BudgetSpent(spent(budget, change))),
         }
     }
 
@@ -109,6 +103,17 @@ impl<'l> Field<'l> {
         Ok(last)
     }
 
+    // The times of the log, where no line is dirty.
+    pub(crate) fn times(&self, alloc: Global) -> Result<Times, AllocError>
+        requires field { IsField self.now }
+        requires clean { IsClean self.now }
+        ensures { IfOk result (AreTimes self.now.log.now (machine_of self.now.machine.now)) }
+    {
+        let starts = self.starts(alloc)?;
+        let times = timed_rows(alloc, self.log, self.machine, &starts)?;
+        Ok(times)
+    }
+
     // The starts of all rows, by their numbers, as their lines were last recomputed.
     fn starts(&self, alloc: Global) -> Result<Vec<u128>, AllocError>
         requires field { IsField self.now }
@@ -135,8 +140,23 @@ impl<'l> Field<'l> {
     }
 }
 
+// The budget is spent, and its last wave made this change first.
+pub(crate) fn spent(budget: u64, change: Correction) -> BudgetSpent
+    ensures waves { result.waves ≡ budget }
+    ensures mail { result.mail ≡ change.mail }
+    ensures kept { result.kept ≡ change.was }
+    ensures due { result.due ≡ change.tick }
+{
+    BudgetSpent {
+        waves: budget,
+        mail: change.mail,
+        kept: change.was,
+        due: change.tick,
+    }
+}
+
 // The first of the corrections.
-fn first(list: &[Correction]) -> Option<Correction>
+pub(crate) fn first(list: &[Correction]) -> Option<Correction>
     ensures { MatchOption result (list.now ≡ []) (λ c. (rest : List Corrected) × (list.now ≡ c ∷ rest)) }
 {
     list.first().copied()

@@ -8,7 +8,7 @@ ghost use Rattle.bs_settle.specs.Field.{IsField};
 ghost use Rattle.bs_settle.specs.Planned.{net_on};
 ghost use Rattle.bs_settle.specs.Shares.{CanBegin};
 
-use crate::{BudgetSpent, Correction, Estimates, Field, SettleFault, plain_times};
+use crate::{BudgetSpent, Correction, Estimates, Field, Noted, SettleFault, plain_times};
 use bs_line::listed;
 use bs_log::{Key, Log, MailRef, Row, Sent, valid};
 use bs_machine::{Fitted, read_machine};
@@ -172,6 +172,27 @@ fn settled(
     }
 }
 
+// What each wave changes, with a budget from 1 to 1000, from tick 0.
+fn noted(alloc: Global, budget: u64) -> Result<Noted, Fail> {
+    let log = worked_log(alloc)?;
+    let machine = worked_machine(alloc)?;
+    let mut field = field(alloc, &log, &machine, &[])?;
+    if budget == 0 || budget > 1000 {
+        return Err("no such budget".into());
+    }
+    let noted = field.settle_noting(alloc, budget)?;
+    Ok(noted)
+}
+
+// How many ticks each wave changes.
+fn changed(alloc: Global, waves: &[List<Correction>]) -> Result<List<usize>, AllocError> {
+    let mut list = List::new(alloc);
+    for wave in waves {
+        list.push(wave.as_slice().len())?;
+    }
+    Ok(list)
+}
+
 fn correction(row: u32, index: u32, to: u32, was: u128, tick: u128) -> Correction {
     Correction {
         mail: mail(row, index),
@@ -240,6 +261,29 @@ fn a_budget_is_spent_or_is_enough(rt: HostRuntime) -> Result<(), Fail> {
         Err(_) => return Err("not settled".into()),
     }
     Ok(())
+}
+
+#[test]
+fn each_wave_is_noted(rt: HostRuntime) -> Result<(), Fail> {
+    let alloc = rt.alloc();
+    let two = noted(alloc, 2)?;
+    assert_eq!(rt;
+        changed(alloc, two.waves.as_slice())?.as_slice(),
+        [3, 1].as_slice()
+    );
+    match two.times {
+        Ok(_) => return Err("not spent".into()),
+        Err(spent) => assert_eq!(rt; spent.mail, mail(4, 1)),
+    }
+    let three = noted(alloc, 3)?;
+    assert_eq!(rt;
+        changed(alloc, three.waves.as_slice())?.as_slice(),
+        [3, 1, 0].as_slice()
+    );
+    match three.times {
+        Ok(_) => Ok(()),
+        Err(_) => Err("not settled".into()),
+    }
 }
 
 #[test]

@@ -1,0 +1,31 @@
+// Laws of settling. Each is a function without a body, whose contract is the law.
+ghost use Rattle.std.specs.Prelude.{◌≡◌, ◌≤◌, ℕ, List, false, true};
+ghost use Rattle.bs_line.specs.declared.corrections.Correction.{Correction};
+ghost use Rattle.bs_times.specs.Net.{Causal, Net, Ticks};
+ghost use Rattle.bs_times.specs.Times.{budget};
+ghost use Rattle.bs_settle.specs.declared.settling.BudgetSpent.{BudgetSpent};
+ghost use Rattle.bs_settle.specs.Settled.{IsSpent, StillAt};
+
+/// **One answer.** Waves from the same estimates with the same budget either settle or don't: what is told
+/// of a budget that is spent is one (`spent`), and then its last wave isn't one that changes no tick
+/// (`either`). A budget that is enough settles (`enough`).
+pub fn one_settling()
+    ensures spent { (net : Net) → Causal net → (estimates : Ticks) (most : ℕ) (s z : BudgetSpent) → IsSpent net estimates most s → IsSpent net estimates most z → s ≡ z }
+    ensures either { (net : Net) → Causal net → (estimates : Ticks) (most : ℕ) (s : BudgetSpent) → IsSpent net estimates most s → StillAt net estimates most → ⊥ }
+    ensures enough { (net : Net) → Causal net → (estimates : Ticks) (most : ℕ) → budget net ≤ most → StillAt net estimates most }
+{}
+
+ghost use Rattle.std.specs.Prelude.{Bool};
+ghost use Rattle.bs_settle.specs.Noted.{AreNoted};
+
+/// **One list of each wave.** From the same estimates the lists of a budget are determined, and whether
+/// they settle (`one`). Where they settle the budget's last wave changes no tick (`still`), and where they
+/// don't it changes one (`moving`), which a budget that is enough never does (`enough`). All budgets that
+/// settle have the same lists (`any`).
+pub fn one_noting()
+    ensures one { (net : Net) → Causal net → (estimates : Ticks) (most : ℕ) (a b : List (List Correction)) (p q : Bool) → AreNoted net estimates most a p → AreNoted net estimates most b q → (a ≡ b) × (p ≡ q) }
+    ensures still { (net : Net) → Causal net → (estimates : Ticks) (most : ℕ) (lists : List (List Correction)) → AreNoted net estimates most lists true → StillAt net estimates most }
+    ensures moving { (net : Net) → Causal net → (estimates : Ticks) (most : ℕ) (lists : List (List Correction)) → AreNoted net estimates most lists false → StillAt net estimates most → ⊥ }
+    ensures enough { (net : Net) → Causal net → (estimates : Ticks) (most : ℕ) (lists : List (List Correction)) → budget net ≤ most → AreNoted net estimates most lists false → ⊥ }
+    ensures any { (net : Net) → Causal net → (estimates : Ticks) (most other : ℕ) (a b : List (List Correction)) → AreNoted net estimates most a true → AreNoted net estimates other b true → a ≡ b }
+{}
