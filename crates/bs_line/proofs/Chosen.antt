@@ -25,7 +25,7 @@ in_order_push {A} R (y ∷ ys) x o h = (above, in_order_push R ys x o.1 (λ z m.
     above z m = one z (mem_cases z ys (x ∷ []) m)
 
 module _ (net : Net) (p : ℕ) where
-  abbrev UpTo : ℕ → ℕ → Type 0
+  abbrev pub UpTo : ℕ → ℕ → Type 0
   UpTo n i = IsOn net p i × (i ≤ n)
 
   last : (n i : ℕ) → i ≤ n + 1 → (i ≤ n) ⊎ (i ≡ n + 1)

@@ -29,10 +29,10 @@ tells x y = go (cases_order x y)
     go (inr (inr h)) = inr (inr (cond-false _ _ _ (le-ltb x y (omega arith)) ∙ cond-false _ _ _ (ne_eqb x y (λ e. omega (arith, e, h))), h))
 
 -- how two keys stand to each other.
-abbrev Stands : ℕ × ℕ → ℕ × ℕ → Type 0
+abbrev pub Stands : ℕ × ℕ → ℕ × ℕ → Type 0
 Stands a b = ((key_cmp a b ≡ Less) × ((a.0 < b.0) ⊎ ((a.0 ≡ b.0) × (a.1 < b.1)))) ⊎ (((key_cmp a b ≡ Equal) × (a ≡ b)) ⊎ (key_cmp a b ≡ Greater))
 
-stands : (a b : ℕ × ℕ) → Stands a b
+pub stands : (a b : ℕ × ℕ) → Stands a b
 stands a b = go (tells a.0 b.0) (tells a.1 b.1)
   where
     go : Tells a.0 b.0 → Tells a.1 b.1 → Stands a b

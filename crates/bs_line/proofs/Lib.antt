@@ -2,10 +2,10 @@ pub mod Ordered
 mod Counted
 mod Rows
 mod Tables
-mod Numbered
+pub mod Numbered
 mod Parts
-mod Kept
-mod Keys
-mod Chosen
+pub mod Kept
+pub mod Keys
+pub mod Chosen
 mod Dirty
 mod Changes

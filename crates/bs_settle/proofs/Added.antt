@@ -15,8 +15,8 @@ use Rattle.bs_line.specs.Places.{AreThose}
 use Rattle.bs_settle.specs.declared.shares.Share.{Share}
 use Rattle.bs_settle.specs.Shares.{AreAdded, AreShares, IsAdded, IsShareOf, from_test, to_test}
 use Rattle.bs_settle.proofs.Columns.{each_after, item_last, item_left, last_place, one_item}
-use Rattle.bs_settle.proofs.Kept.{kept_more}
-use Rattle.bs_settle.proofs.Rows.{those_next, those_none}
+use Rattle.bs_line.proofs.Kept.{kept_more}
+use Rattle.bs_line.proofs.Chosen.{those_next, those_none}
 
 -- something is added to the share at place k, and nothing to others.
 pub added_one : (old : List Share) (k : ℕ) (a b : Share) (rows : ℕ → List ℕ) (comes goes : ℕ → List Estimate) → slice_get old k ≡ Some a → IsAdded a b (rows k) (comes k) (goes k) → ((p : ℕ) → p ≢ k → (rows p ≡ []) × (comes p ≡ []) × (goes p ≡ [])) → AreAdded old (set old k b) rows comes goes

@@ -1,4 +1,3 @@
-mod Numbered
 mod Listed
 mod Whole
 mod Joined
@@ -13,10 +12,7 @@ mod Waved
 mod Consistent
 mod Fields
 mod Within
-mod Kept
-mod Rows
 mod Added
-mod Mails
 mod Shared
 mod Made
 mod Early

@@ -25,7 +25,7 @@ use Rattle.bs_settle.specs.declared.shares.Share.{Share}
 use Rattle.bs_settle.specs.Field.{AreFieldLines, IsField, given_of, net_in, ticks_of}
 use Rattle.bs_settle.specs.Lines.{begun_in}
 use Rattle.bs_settle.specs.Making.{AddsLine, AreLinesTo, IsMade, IsNew, IsWholeShare}
-use Rattle.bs_settle.specs.Planned.{net_on}
+use Rattle.bs_line.specs.Layout.{net_on}
 use Rattle.bs_settle.specs.Shares.{IsShareOf}
 use Rattle.bs_settle.proofs.Columns.{item_last, item_left, last_place, one_item}
 use Rattle.bs_settle.proofs.Lines.{given_at, held_at, receiver, sender}

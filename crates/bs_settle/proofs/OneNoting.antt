@@ -18,17 +18,10 @@ use Rattle.bs_settle.specs.Changes.{AreChanges, HasChange, IsChange}
 use Rattle.bs_settle.specs.Noted.{AreNoted, IsListOf}
 use Rattle.bs_settle.specs.Settled.{IsLeastChange, IsSpent, StillAt}
 use Rattle.bs_settle.proofs.Columns.{item_last, item_left, one_item, some_item}
+use Rattle.bs_settle.proofs.Waved.{one_change}
 use Rattle.bs_settle.proofs.Within.{none_changed}
 
 -- ---- lists of changes
-
--- the changes of one message are the same.
-one_change : (net : Net) (old new : Ticks) (c d : Correction) → IsChange net old new c → IsChange net old new d → c.mail ≡ d.mail → c ≡ d
-one_change net old new c d x y e =
-    let to : c.to ≡ d.to = x.to ∙ ap net.goes_to e ∙ sym y.to in
-    let was : c.was.0 ≡ d.was.0 = x.was ∙ ap old e ∙ sym y.was in
-    let tick : c.tick.0 ≡ d.tick.0 = x.tick ∙ ap new e ∙ sym y.tick in
-    λ i. record { mail = e i; to = to i; was = record { 0 = was i }; tick = record { 0 = tick i } }
 
 one_side : (net : Net) (old new : Ticks) (a b : List Correction) → AreChanges net old new a → AreChanges net old new b → (c : Correction) → Mem c a → Mem c b
 one_side net old new a b h g c m = go (g.all c.mail x.listed x.differs)

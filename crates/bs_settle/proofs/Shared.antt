@@ -18,9 +18,9 @@ use Rattle.bs_settle.specs.declared.field.Estimates.TheVariants as estimates
 use Rattle.bs_settle.specs.declared.shares.Share.{Share}
 use Rattle.bs_settle.specs.Making.{IsWholeShare}
 use Rattle.bs_settle.specs.Shares.{AreShares, AreWhole, CanBegin, IsShareOf, from_test, ticks_by, to_test}
-use Rattle.bs_settle.proofs.Kept.{kept_among, kept_mails, kept_tick}
-use Rattle.bs_settle.proofs.Mails.{one_mails}
-use Rattle.bs_settle.proofs.Rows.{those_all}
+use Rattle.bs_line.proofs.Kept.{kept_among, kept_mails, kept_tick}
+use Rattle.bs_line.proofs.Ordered.{one_mails}
+use Rattle.bs_line.proofs.Chosen.{those_all}
 
 -- ---- estimates
 

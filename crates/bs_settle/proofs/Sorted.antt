@@ -10,6 +10,7 @@ use Rattle.bs_log.specs.ClosedTest.{Mem}
 use Rattle.bs_log.specs.Rising.{IsLower}
 use Rattle.bs_times.proofs.Members.{map_mem, mem_map}
 use Rattle.bs_line.specs.declared.corrections.Correction.{Correction}
+use Rattle.bs_line.proofs.Keys.{Stands, key_cmp, key_less, stands}
 use Rattle.bs_settle.specs.Changes.{AreApart, AreOrdered, ChangesRise}
 
 abbrev pub Key : Type 0
@@ -17,9 +18,6 @@ Key = ℕ × ℕ
 
 abbrev pub Entry : Type 0
 Entry = Key × Correction
-
-abbrev pub key_cmp : Key → Key → Ordering
-key_cmp x y = ordering_then (nat_cmp x.0 y.0) (nat_cmp x.1 y.1)
 
 abbrev pub key_of : Correction → Key
 key_of c = (c.mail.row, c.mail.index)
@@ -29,40 +27,6 @@ pub record AreSorted (all left : List Correction) (entries : List Entry) : Type 
   pub ordered : IsStrictlySortedBy key_cmp (map (λ e. e.0) entries)
   pub sound : (e : Entry) → Mem e entries → (e.0 ≡ key_of e.1) × Mem e.1 all
   pub some : (c : Correction) → Mem c all → Mem c left ⊎ Mem (key_of c, c) entries
-
--- ---- the order of keys
-
-abbrev Tells : ℕ → ℕ → Type 0
-Tells x y = ((nat_cmp x y ≡ Less) × (x < y)) ⊎ (((nat_cmp x y ≡ Equal) × (x ≡ y)) ⊎ ((nat_cmp x y ≡ Greater) × (y < x)))
-
-tells : (x y : ℕ) → Tells x y
-tells x y = go (cases_order x y)
-  where
-    go : (x ≡ y) ⊎ ((x < y) ⊎ (y < x)) → Tells x y
-    go (inl e) = inr (inl (cond-false _ _ _ (le-ltb x y (omega (arith, e))) ∙ cond-true _ _ _ (eq-eqb x y e), e))
-    go (inr (inl h)) = inl (cond-true _ _ _ (lt-ltb x y h), h)
-    go (inr (inr h)) = inr (inr (cond-false _ _ _ (le-ltb x y (omega arith)) ∙ cond-false _ _ _ (ne_eqb x y (λ e. omega (arith, e, h))), h))
-
-abbrev Stands : Key → Key → Type 0
-Stands a b = ((key_cmp a b ≡ Less) × ((a.0 < b.0) ⊎ ((a.0 ≡ b.0) × (a.1 < b.1)))) ⊎ (((key_cmp a b ≡ Equal) × (a ≡ b)) ⊎ (key_cmp a b ≡ Greater))
-
-stands : (a b : Key) → Stands a b
-stands a b = go (tells a.0 b.0) (tells a.1 b.1)
-  where
-    go : Tells a.0 b.0 → Tells a.1 b.1 → Stands a b
-    go (inl x) y = inl (ap (λ o. ordering_then o (nat_cmp a.1 b.1)) x.0, inl x.1)
-    go (inr (inl x)) (inl y) = inl (ap (λ o. ordering_then o (nat_cmp a.1 b.1)) x.0 ∙ y.0, inr (x.1, y.1))
-    go (inr (inl x)) (inr (inl y)) = inr (inl (ap (λ o. ordering_then o (nat_cmp a.1 b.1)) x.0 ∙ y.0, λ i. (x.1 i, y.1 i)))
-    go (inr (inl x)) (inr (inr y)) = inr (inr (ap (λ o. ordering_then o (nat_cmp a.1 b.1)) x.0 ∙ y.0))
-    go (inr (inr x)) y = inr (inr (ap (λ o. ordering_then o (nat_cmp a.1 b.1)) x.0))
-
-key_less : (a b : Key) → key_cmp a b ≡ Less → (a.0 < b.0) ⊎ ((a.0 ≡ b.0) × (a.1 < b.1))
-key_less a b h = go (stands a b)
-  where
-    go : Stands a b → (a.0 < b.0) ⊎ ((a.0 ≡ b.0) × (a.1 < b.1))
-    go (inl x) = x.1
-    go (inr (inl x)) = let e : Equal ≡ Less = sym x.0 ∙ h in absurd cc
-    go (inr (inr x)) = let e : Greater ≡ Less = sym x ∙ h in absurd cc
 
 -- ---- an entry more
 

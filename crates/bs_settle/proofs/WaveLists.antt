@@ -13,7 +13,7 @@ use Rattle.bs_settle.specs.declared.field.Field.{Field}
 use Rattle.bs_settle.specs.Changes.{AreChanges, ChangesRise}
 use Rattle.bs_settle.specs.Field.{IsField, net_in, ticks_of, world_of}
 use Rattle.bs_settle.specs.Noted.{AreListsOf, AreNoted, IsListOf}
-use Rattle.bs_settle.specs.Planned.{net_on}
+use Rattle.bs_line.specs.Layout.{net_on}
 use Rattle.bs_settle.specs.Settled.{ChangesAt, OfWaves}
 use Rattle.bs_settle.proofs.Columns.{item_last, item_left, last_place, one_item}
 use Rattle.bs_settle.proofs.Premises.{causal}

@@ -28,14 +28,15 @@ use Rattle.bs_settle.proofs.Lines.{Found, begun_at, found, given_at, held_at, li
 -- ---- corrections
 
 -- those of one message are the same.
-pub changes_apart : (net : Net) (old new : Ticks) (cs : List Correction) → AreChanges net old new cs → AreApart cs
-changes_apart net old new cs h c d m n e =
-    let x = h.sound c m in
-    let y = h.sound d n in
+pub one_change : (net : Net) (old new : Ticks) (c d : Correction) → IsChange net old new c → IsChange net old new d → c.mail ≡ d.mail → c ≡ d
+one_change net old new c d x y e =
     let to : c.to ≡ d.to = x.to ∙ ap net.goes_to e ∙ sym y.to in
     let was : c.was.0 ≡ d.was.0 = x.was ∙ ap old e ∙ sym y.was in
     let tick : c.tick.0 ≡ d.tick.0 = x.tick ∙ ap new e ∙ sym y.tick in
     λ i. record { mail = e i; to = to i; was = record { 0 = was i }; tick = record { 0 = tick i } }
+
+pub changes_apart : (net : Net) (old new : Ticks) (cs : List Correction) → AreChanges net old new cs → AreApart cs
+changes_apart net old new cs h c d m n e = one_change net old new c d (h.sound c m) (h.sound d n) e
 
 -- the same changes in another order.
 pub changes_ordered : (net : Net) (old new : Ticks) (cs list : List Correction) → AreChanges net old new cs → AreOrdered cs list → AreChanges net old new list

@@ -19,9 +19,11 @@ use Rattle.bs_times.proofs.Found.{row_fits, send_fits}
 use Rattle.bs_times.proofs.Members.{cases_le, mem_cases, map_mem}
 use Rattle.bs_settle.specs.declared.times.Times.{Times}
 use Rattle.bs_settle.specs.Timed.{AreTimes, ends_from, numbers, starts_from}
-use Rattle.bs_settle.specs.Planned.{IsSend, by_row, net_on}
+use Rattle.bs_line.specs.Layout.{net_on}
+use Rattle.bs_line.specs.Making.{IsSend}
+use Rattle.bs_settle.specs.Planned.{by_row}
 use Rattle.bs_settle.proofs.Listed.{by_row_at, by_row_first, by_row_long, by_row_past}
-use Rattle.bs_settle.proofs.Numbered.{rows_few, mail_sent}
+use Rattle.bs_line.proofs.Numbered.{rows_few, mail_sent}
 
 pub home_below : (m : Fitted) (chare : ℕ) → chare < m.chares → (machine_of m).home chare < processors_of m
 unfolding machine_of

@@ -19,7 +19,7 @@ use Rattle.bs_settle.specs.declared.field.Field.{Field}
 use Rattle.bs_settle.specs.declared.settling.BudgetSpent.{BudgetSpent}
 use Rattle.bs_settle.specs.Changes.{AreChanges, ChangesRise, HasChange, IsChange}
 use Rattle.bs_settle.specs.Field.{FitsAsBefore, IsField, net_in, ticks_of, world_of}
-use Rattle.bs_settle.specs.Planned.{net_on}
+use Rattle.bs_line.specs.Layout.{net_on}
 use Rattle.bs_settle.specs.Settled.{AreWithin, ChangesAt, IsLeastChange, IsSpent, OfWaves, StillAt}
 use Rattle.bs_settle.proofs.Premises.{causal}
 

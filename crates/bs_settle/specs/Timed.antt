@@ -1,15 +1,12 @@
 -- The times of a log on a machine (docs/model.md).
-use Rattle.std.specs.Prelude.{◌≡◌, ◌≤◌, ◌<◌, ◌+◌, ◌^◌, ℕ, List, [], ◌∷◌, map}
+use Rattle.std.specs.Prelude.{◌≡◌, ◌≤◌, ◌<◌, ◌+◌, ◌^◌, ℕ, List, [], ◌∷◌}
 use Rattle.bs_log.specs.declared.log.Row.{Row}
 use Rattle.bs_log.specs.declared.log.Log.{Log}
-use Rattle.bs_num.specs.declared.ticks.Tick.{Tick}
 use Rattle.bs_semantics.specs.Serial.{Machine}
 use Rattle.bs_times.specs.Net.{Starts, HasRow, net_of}
 use Rattle.bs_times.specs.Times.{IsConsistent, end_of}
+pub use Rattle.bs_line.specs.Making.{numbers}
 use Rattle.bs_settle.specs.declared.times.Times.{Times}
-
-abbrev pub numbers : List Tick → List ℕ
-numbers ticks = map (λ tick. tick.0) ticks
 
 -- the starts of rows that are numbered from k on
 abbrev pub starts_from : Starts → ℕ → List Row → List ℕ

@@ -5,8 +5,8 @@ ghost use Rattle.bs_times.specs.Net.{row_of};
 ghost use Rattle.bs_times.specs.Times.{budget, greatest_to};
 ghost use Rattle.bs_settle.specs.Field.{IsField, net_in};
 
-use crate::finding::{count, row_at};
 use bs_line::Line;
+use bs_line::finding::{count, row_at};
 use bs_log::Log;
 use bs_machine::Fitted;
 use bs_num::Tick;

@@ -6,8 +6,8 @@
 //! such table, and that waves come to it.
 #![tactic(auto)]
 
+mod causes;
 mod field;
-mod finding;
 mod gathering;
 mod holding;
 pub mod laws;

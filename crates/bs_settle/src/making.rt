@@ -8,7 +8,7 @@ ghost use Rattle.bs_line.specs.Places.{AreMails};
 ghost use Rattle.bs_settle.specs.declared.field.Estimates.{Estimates as Begin};
 ghost use Rattle.bs_settle.specs.Field.{IsField, net_in, ticks_of, world_of};
 ghost use Rattle.bs_settle.specs.Making.{AddsLine, AreLinesTo, IsWholeShare};
-ghost use Rattle.bs_settle.specs.Planned.{net_on};
+ghost use Rattle.bs_line.specs.Layout.{net_on};
 ghost use Rattle.bs_settle.specs.Shares.{AreWhole, CanBegin, estimate_of};
 
 use crate::field::{Estimates, Field};

@@ -10,9 +10,9 @@ ghost use Rattle.bs_settle.specs.Settled.{AreWithin, IsClean, IsFault, StillAt};
 ghost use Rattle.bs_settle.specs.Timed.{AreTimes};
 
 use crate::field::Field;
-use crate::finding::{count, home};
 use crate::times::{Times, timed_rows};
 use bs_line::Correction;
+use bs_line::finding::{count, home};
 use bs_log::MailRef;
 use bs_num::Tick;
 use std::alloc::{AllocError, Global};

@@ -8,11 +8,12 @@ ghost use Rattle.bs_machine.specs.Fitted.{processors_of};
 ghost use Rattle.bs_times.specs.Net.{Net as Links};
 ghost use Rattle.bs_line.specs.Listing.{row_if};
 ghost use Rattle.bs_line.specs.Making.{kept_one};
-ghost use Rattle.bs_settle.specs.Planned.{IsSend, net_on};
+ghost use Rattle.bs_line.specs.Layout.{net_on};
+ghost use Rattle.bs_line.specs.Making.{IsSend};
 ghost use Rattle.bs_settle.specs.Shares.{AreAdded, AreShares, AreWhole, CanBegin, ticks_by};
 
 use crate::field::Estimates;
-use crate::finding::{count, goes_to, home};
+use bs_line::finding::{count, goes_to, home};
 use bs_line::{Estimate, listed};
 use bs_log::{Log, MailRef};
 use bs_machine::Fitted;

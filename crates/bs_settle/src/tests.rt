@@ -5,7 +5,7 @@ ghost use Rattle.bs_log.specs.Valid.{IsValid};
 ghost use Rattle.bs_machine.specs.declared.fitted.Fitted.{Fitted as Machine};
 ghost use Rattle.bs_num.specs.declared.ticks.Tick.{Tick as Moment};
 ghost use Rattle.bs_settle.specs.Field.{IsField};
-ghost use Rattle.bs_settle.specs.Planned.{net_on};
+ghost use Rattle.bs_line.specs.Layout.{net_on};
 ghost use Rattle.bs_settle.specs.Shares.{CanBegin};
 
 use crate::{BudgetSpent, Correction, Estimates, Field, Noted, SettleFault, plain_times};

@@ -5,8 +5,8 @@ ghost use Rattle.bs_schedule.specs.Plan.{at};
 ghost use Rattle.bs_times.specs.Machine.{machine_of};
 ghost use Rattle.bs_settle.specs.Timed.{AreTimes, ends_from, numbers, starts_from};
 
-use crate::finding::{count, duration};
 use crate::log_plan::log_plan;
+use bs_line::finding::{count, duration};
 use bs_log::Log;
 use bs_machine::Fitted;
 use bs_num::Tick;

@@ -5,7 +5,8 @@ use Rattle.std.proofs.lemmas.List.{drop_more}
 use Rattle.bs_schedule.proofs.Places.{place_mem}
 use Rattle.bs_line.specs.declared.corrections.Correction.{Correction}
 use Rattle.bs_settle.specs.Changes.{AreOrdered}
-use Rattle.bs_settle.proofs.Sorted.{AreSorted, Entry, all_sorted, key_cmp, one_sorted}
+use Rattle.bs_line.proofs.Keys.{key_cmp}
+use Rattle.bs_settle.proofs.Sorted.{AreSorted, Entry, all_sorted, one_sorted}
 use Rattle.bs_settle.proofs.gathering.in_order.Goals as goal
 
 pub loop-correction-preserved : goal.loop-correction-preserved

@@ -6,9 +6,9 @@ use Rattle.bs_num.specs.declared.ticks.Tick.{Tick}
 use Rattle.bs_times.specs.Machine.{machine_of}
 use Rattle.bs_times.specs.Times.{IsListed}
 use Rattle.bs_line.specs.Places.{AreMails}
-use Rattle.bs_settle.specs.Planned.{net_on}
+use Rattle.bs_line.specs.Layout.{net_on}
 use Rattle.bs_settle.specs.Shares.{AreShares, ticks_by}
-use Rattle.bs_settle.proofs.Numbered.{mail_sent}
+use Rattle.bs_line.proofs.Numbered.{mail_sent}
 use Rattle.bs_settle.proofs.Shared.{ticks_long, whole}
 use Rattle.bs_settle.proofs.shares.shares.Goals as goal
 

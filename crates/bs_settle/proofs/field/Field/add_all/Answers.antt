@@ -3,7 +3,7 @@ use Rattle.std.proofs.lemmas.Option.{slice_get_read}
 use Rattle.bs_machine.specs.Fitted.{processors_of}
 use Rattle.bs_settle.specs.Field.{net_in}
 use Rattle.bs_settle.specs.Making.{AddsLine, AreLinesTo, IsWholeShare}
-use Rattle.bs_settle.specs.Planned.{net_on}
+use Rattle.bs_line.specs.Layout.{net_on}
 use Rattle.bs_settle.proofs.Made.{line_added}
 use Rattle.bs_settle.proofs.Shared.{whole_share}
 use Rattle.bs_settle.proofs.field.Field.add_all.Goals as goal

@@ -1,6 +1,6 @@
 use Rattle.std.proofs.Common.{◌∙◌, subst, sym}
 use Rattle.bs_machine.specs.Fitted.{processors_of}
-use Rattle.bs_settle.specs.Planned.{net_on}
+use Rattle.bs_line.specs.Layout.{net_on}
 use Rattle.bs_settle.specs.Shares.{AreWhole}
 use Rattle.bs_settle.proofs.Made.{new_field, new_ticks, none_begun}
 use Rattle.bs_settle.proofs.field.Field.new.Goals as goal
