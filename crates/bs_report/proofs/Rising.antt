@@ -23,7 +23,7 @@ abbrev pub Rises : List ℕ → Type 0
 Rises [] = Unit {0}
 Rises (p ∷ ps) = Above p ps × Rises ps
 
-above_lower : (n k : ℕ) (ps : List ℕ) → n < k → Above k ps → Above n ps
+pub above_lower : (n k : ℕ) (ps : List ℕ) → n < k → Above k ps → Above n ps
 above_lower n k [] h a = tt
 above_lower n k (p ∷ ps) h (q, a) = (omega (arith, h, q), above_lower n k ps h a)
 

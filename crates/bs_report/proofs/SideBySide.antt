@@ -1,5 +1,5 @@
 -- Rows of a log beside their starts and ends are the rows of its outcome.
-use Rattle.std.proofs.Common.{◌≡◌, ℕ, suc, ◌+◌, ◌<◌, ◌≤◌, List, [], ◌∷◌, length, map, get_or, refl, ap, subst, sym, ◌∙◌, arith}
+use Rattle.std.proofs.Common.{◌≡◌, ℕ, suc, ◌+◌, ◌<◌, ◌≤◌, List, [], ◌∷◌, length, get_or, refl, ap, subst, sym, ◌∙◌, arith}
 use Rattle.std.specs.List.{All}
 use Rattle.std.proofs.lemmas.List.{length-map}
 use Rattle.std.proofs.lemmas.List.Elements.{All-nil, All-cons}
@@ -13,13 +13,12 @@ use Rattle.bs_log.specs.declared.outcome.Outcome.{Outcome}
 use Rattle.bs_log.specs.Valid.{EachFrom, RowFits, IsValid}
 use Rattle.bs_semantics.specs.Serial.{Machine}
 use Rattle.bs_settle.specs.Timed.{AreInRange, numbers, starts_from, ends_from}
-use Rattle.bs_times.specs.Machine.{IsTimely}
 use Rattle.bs_times.specs.Net.{Starts, HasRow, no_row, row_of, net_of}
 use Rattle.bs_times.specs.Times.{end_of}
 use Rattle.bs_times.specs.Outcomes.{out_row, out_rows, outcome_of}
 use Rattle.bs_times.proofs.Found.{numbered_is}
 use Rattle.bs_times.proofs.Small.{all_out, out_count}
-use Rattle.bs_report.specs.Outcomes.{timed_row, timed_rows}
+use Rattle.bs_report.specs.Outcomes.{timed_rows}
 use Rattle.bs_report.specs.Report.{IsTimed, IsReportable}
 
 -- the chare of each row is below the number of chares.

@@ -21,8 +21,9 @@ use Rattle.bs_machine.specs.declared.fitted.PlaceLength.{PlaceLength}
 use Rattle.bs_machine.specs.declared.key.MachineKey.{MachineKey}
 use Rattle.bs_rounds.specs.declared.answer.At.{At}
 use Rattle.bs_rounds.specs.declared.answer.Twice.{Twice}
+use Rattle.bs_settle.specs.declared.settling.BudgetSpent.{BudgetSpent}
 use Rattle.bs_report.specs.declared.faults.Fault.{Fault}
-use Rattle.bs_report.specs.declared.faults.Fault.TheVariants.{BadWords, BadProgram, CheckFailed, BadMachine, BadPlace, BadLog, Ambiguous, TooLong, TooBig}
+use Rattle.bs_report.specs.declared.faults.Fault.TheVariants.{BadWords, BadProgram, CheckFailed, BadMachine, BadPlace, BadLog, Ambiguous, TooLong, BudgetSpent as SpentBudget, TooBig}
 
 -- the place is a byte of the text, counted from 0
 abbrev pub program_line : ℕ → List ℕ → List ℕ
@@ -114,6 +115,13 @@ abbrev pub twice_text : Twice → List ℕ
 twice_text twice =
     key_of_chare twice.chare twice.key ++ twice_word twice.asked ++ at_text twice.first ++ codes " and " ++ at_text twice.second ++ codes "\n"
 
+-- how many waves there were, and the least message whose tick the last of them changed, with its tick before and after it
+abbrev pub spent_text : BudgetSpent → List ℕ
+spent_text spent =
+    codes "budget spent: waves " ++ (decimal spent.waves ++ (codes " mail " ++ (decimal spent.mail.row
+    ++ (codes " " ++ (decimal spent.mail.index ++ (codes " kept " ++ (decimal spent.kept.0
+    ++ (codes " due " ++ (decimal spent.due.0 ++ codes "\n")))))))))
+
 abbrev pub fault_text : Fault → List ℕ
 fault_text BadWords = codes "bad words\n"
 fault_text (BadProgram fault) = parse_text fault
@@ -123,4 +131,5 @@ fault_text (BadPlace length) = place_text length
 fault_text (BadLog fault) = log_text fault
 fault_text (Ambiguous twice) = twice_text twice
 fault_text (TooLong limit) = codes "too long: limit " ++ decimal limit ++ codes "\n"
+fault_text (SpentBudget spent) = spent_text spent
 fault_text (TooBig limit) = codes "too big: limit " ++ decimal limit ++ codes " bytes\n"

@@ -1,6 +1,6 @@
 // Why a command is refused, and the line that says so.
 ghost use Rattle.std.specs.Prelude.{◌≡◌, ◌++◌, IfOk, OnOk, string_bytes};
-ghost use Rattle.bs_report.specs.Fault.{at_text, check_line, check_text, fault_text, interference_line, key_of_chare, log_line as log_line_of, log_rule_word, log_text, machine_text, parse_text, place_text, program_line as program_line_of, twice_text, twice_word as twice_word_of};
+ghost use Rattle.bs_report.specs.Fault.{at_text, check_line, check_text, fault_text, interference_line, key_of_chare, log_line as log_line_of, log_rule_word, log_text, machine_text, parse_text, place_text, program_line as program_line_of, spent_text, twice_text, twice_word as twice_word_of};
 
 use bs_check::{CheckFault, Rule};
 use bs_lex::LexFault;
@@ -10,6 +10,7 @@ use bs_logread::LogFault;
 use bs_machine::{MachineFault, PlaceLength};
 use bs_parse::ParseFault;
 use bs_rounds::{At, Twice};
+use bs_settle::BudgetSpent;
 use std::alloc::{AllocError, Global};
 use std::fmt::Write;
 
@@ -32,6 +33,9 @@ pub enum Fault {
     Ambiguous(Twice),
     /// The size of the run is above this limit.
     TooLong(u64),
+    /// The last wave of the budget still changed a tick. The message is the least whose tick changed,
+    /// with its tick before that wave and after it.
+    BudgetSpent(BudgetSpent),
     /// A file has more bytes than this limit.
     TooBig(u64),
 }
@@ -52,6 +56,7 @@ pub fn fault_line(alloc: Global, fault: &Fault) -> Result<Vec<u8>, AllocError>
             let line = format!(in alloc; "too long: limit {limit}\n")?;
             Ok(line.into_bytes())
         }
+        Fault::BudgetSpent(spent) => spent_line(alloc, *spent),
         Fault::TooBig(limit) => {
             let line = format!(in alloc; "too big: limit {limit} bytes\n")?;
             Ok(line.into_bytes())
@@ -209,4 +214,20 @@ fn write_at(line: &mut String, at: At) -> Result<(), AllocError>
     ensures { OnOk result (string_bytes line.new ≡ string_bytes line.old ++ at_text at) }
 {
     write!(line, "chare {} stmt {}", at.chare, at.stmt)
+}
+
+fn spent_line(alloc: Global, spent: BudgetSpent) -> Result<Vec<u8>, AllocError>
+    ensures { IfOk result (λ line. line.items ≡ spent_text spent) }
+{
+    let BudgetSpent {
+        waves,
+        mail,
+        kept,
+        due,
+    } = spent;
+    let line = format!(in alloc;
+        "budget spent: waves {waves} mail {} {} kept {} due {}\n",
+        mail.row, mail.index, kept.0, due.0
+    )?;
+    Ok(line.into_bytes())
 }

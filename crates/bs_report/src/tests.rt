@@ -2,15 +2,19 @@
 ghost use Rattle.std.specs.Prelude.{IsTrue, ◌↔◌};
 ghost use Rattle.bs_report.specs.Report.{IsTimed};
 
-use crate::{Fault, end, fault_line, report};
+use crate::{Fault, end, fault_line, journal, report, trace};
 use bs_check::{CheckFault, Rule};
 use bs_lex::{LexFault, TokenKind};
-use bs_log::{End, Key, OutRow, Outcome, TrapKind, TrapRow, WaitRow};
+use bs_log::{
+    End, Key, Log, MailRef, OutRow, Outcome, Row, Sent, TrapKind, TrapRow, WaitRow, valid,
+};
 use bs_logcheck::LogRule;
 use bs_logread::LogFault;
-use bs_machine::{MachineFault, MachineKey, PlaceLength};
+use bs_machine::{Fitted, MachineFault, MachineKey, PlaceLength, read_machine};
+use bs_num::Tick;
 use bs_parse::ParseFault;
 use bs_rounds::{At, Twice};
+use bs_settle::{BudgetSpent, Correction, plain_times};
 use bs_tree::List;
 use std::alloc::{AllocError, Global};
 use std::process::Abort;
@@ -359,10 +363,179 @@ fn fault_lines(rt: HostRuntime) -> Result<(), Fail> {
             "ambiguous: chare 0 entry 0 ref -7 asked by chare 0 stmt 2 and chare 0 stmt 4\n",
         ),
         (Fault::TooLong(2), "too long: limit 2\n"),
+        (
+            Fault::BudgetSpent(BudgetSpent {
+                waves: 1,
+                mail: mail(2, 1),
+                kept: Tick(0),
+                due: Tick(16),
+            }),
+            "budget spent: waves 1 mail 2 1 kept 0 due 16\n",
+        ),
         (Fault::TooBig(1_048_576), "too big: limit 1048576 bytes\n"),
     ];
     for (fault, want) in &cases {
         assert_eq!(rt; fault_line(rt.alloc(), fault)?.as_slice(), want.as_bytes());
     }
+    Ok(())
+}
+
+fn mail(row: u32, index: u32) -> MailRef {
+    MailRef { row, index }
+}
+
+fn correction(row: u32, index: u32, was: u128, tick: u128) -> Correction {
+    Correction {
+        mail: mail(row, index),
+        to: 0,
+        was: Tick(was),
+        tick: Tick(tick),
+    }
+}
+
+fn wave(alloc: Global, corrections: &[Correction]) -> Result<List<Correction>, AllocError> {
+    Ok(List::from_vec(corrections.to_vec(alloc)?))
+}
+
+#[test]
+fn journals(rt: HostRuntime) -> Result<(), Fail> {
+    let alloc = rt.alloc();
+    let first = [
+        correction(2, 1, 0, 16),
+        correction(2, 2, 0, 8),
+        correction(4, 1, 0, 25),
+    ];
+    let waves = [
+        wave(alloc, &first)?,
+        wave(alloc, &[correction(4, 1, 25, 23)])?,
+        wave(alloc, &[])?,
+    ];
+    let settled = "wave 1
+mail 2 1 from 0 to 16
+mail 2 2 from 0 to 8
+mail 4 1 from 0 to 25
+wave 2
+mail 4 1 from 25 to 23
+wave 3
+settled 3
+";
+    let spent = "wave 1
+mail 2 1 from 0 to 16
+mail 2 2 from 0 to 8
+mail 4 1 from 0 to 25
+spent 1
+";
+    assert_eq!(rt;
+        journal(alloc, &waves, true)?.as_slice(),
+        settled.as_bytes()
+    );
+    assert_eq!(rt;
+        journal(alloc, &waves[..1], false)?.as_slice(),
+        spent.as_bytes()
+    );
+    Ok(())
+}
+
+// A message between the two processors takes 5 ticks, and one more for each 64 bytes.
+const MACHINE: &str =
+    "[torus]\nsizes = [2]\nper_node = 1\n[place]\nkind = \"cycle\"\n[speed]\nnum = 1\nden = 1\n[latency]\nself = 1\nlocal = 1\nbase = 5\nhop = 0\nbytes_num = 1\nbytes_den = 64\n";
+
+fn worked_machine(alloc: Global) -> Result<Fitted, Fail> {
+    match read_machine(alloc, MACHINE.as_bytes()) {
+        Ok(machine) => match machine.fit(3) {
+            Ok(fitted) => Ok(fitted),
+            Err(_) => Err("not fitted".into()),
+        },
+        Err(_) => Err("not read".into()),
+    }
+}
+
+fn sent(to: u32, entry: u32, bytes: u64, offset: u64) -> Sent {
+    Sent {
+        to,
+        key: Key {
+            entry,
+            reference: 0,
+        },
+        bytes,
+        offset,
+    }
+}
+
+fn log_row(
+    alloc: Global,
+    chare: u32,
+    depth: u32,
+    cost: u64,
+    after: &[u32],
+    mail: &[MailRef],
+    sends: &[Sent],
+) -> Result<Row, AllocError> {
+    Ok(Row {
+        chare,
+        stmt: depth,
+        depth,
+        cost,
+        after: List::from_vec(after.to_vec(alloc)?),
+        mail: List::from_vec(mail.to_vec(alloc)?),
+        emits: List::new(alloc),
+        sends: List::from_vec(sends.to_vec(alloc)?),
+    })
+}
+
+fn log(alloc: Global, rows: List<Row>) -> Log {
+    Log {
+        chares: 3,
+        entries: 2,
+        rows,
+        traps: List::new(alloc),
+        waits: List::new(alloc),
+    }
+}
+
+// Chare 1 sends a long message to chare 0 and a short one to chare 2, each of which works for 10. Chare 2
+// then sends word to chare 1.
+fn worked_log(alloc: Global) -> Result<Log, AllocError> {
+    let sends = [sent(0, 0, 640, 1), sent(2, 0, 8, 2)];
+    let answer = [sent(1, 1, 0, 10)];
+    let mut rows = List::new(alloc);
+    rows.push(log_row(alloc, 0, 2, 10, &[], &[mail(2, 1)], &[])?)?;
+    rows.push(log_row(alloc, 1, 1, 2, &[], &[], &sends)?)?;
+    rows.push(log_row(alloc, 1, 3, 1, &[2], &[mail(4, 1)], &[])?)?;
+    rows.push(log_row(alloc, 2, 2, 10, &[], &[mail(2, 2)], &answer)?)?;
+    Ok(log(alloc, rows))
+}
+
+// The trace of a log by its plain times.
+fn traced(alloc: Global, log: &Log) -> Result<Vec<u8>, Fail> {
+    let machine = worked_machine(alloc)?;
+    if !valid(log) || machine.chares != log.chares {
+        return Err("not valid or not fitted".into());
+    }
+    let times = plain_times(alloc, log, &machine)?;
+    Ok(trace(alloc, log, &machine, &times)?)
+}
+
+#[test]
+fn traces(rt: HostRuntime) -> Result<(), Fail> {
+    let alloc = rt.alloc();
+    let want = "proc 0
+run 4 ready 8 start 8 end 18
+run 1 ready 16 start 18 end 28
+proc 1
+run 2 ready 0 start 0 end 2
+run 3 ready 23 start 23 end 24
+mail 2 1 left 1 came 16
+mail 2 2 left 2 came 8
+mail 4 1 left 18 came 23
+";
+    assert_eq!(rt;
+        traced(alloc, &worked_log(alloc)?)?.as_slice(),
+        want.as_bytes()
+    );
+    assert_eq!(rt;
+        traced(alloc, &log(alloc, List::new(alloc)))?.as_slice(),
+        b"".as_slice()
+    );
     Ok(())
 }

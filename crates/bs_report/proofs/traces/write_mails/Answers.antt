@@ -1,0 +1,11 @@
+use Rattle.std.proofs.Common.{arith}
+use Rattle.bs_settle.specs.Timed.{numbers}
+use Rattle.bs_times.specs.Machine.{machine_of}
+use Rattle.bs_report.specs.Trace.{mail_line, start_in}
+use Rattle.bs_report.proofs.Written.{one_row}
+use Rattle.bs_report.proofs.traces.write_mails.Goals as goal
+
+pub loop-place-preserved : goal.loop-place-preserved
+loop-place-preserved c =
+    one_row (mail_line c.args.log.now (machine_of c.args.machine.now) (start_in (numbers c.args.starts.now))) c.args.log.now c.loop-place.place _ _ _
+    (omega (arith, c.loop-place-test.true, c.count-place-end.ensures.value)) c.in_ok-write_sends.ensures c.loop-place.invariant

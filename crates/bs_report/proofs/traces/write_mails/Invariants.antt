@@ -1,0 +1,11 @@
+use Rattle.std.proofs.Common.{◌≡◌, ◌+◌, ◌++◌, drop, string_bytes}
+use Rattle.std.specs.List.{flat_map}
+use Rattle.bs_settle.specs.Timed.{numbers}
+use Rattle.bs_times.specs.Machine.{machine_of}
+use Rattle.bs_report.specs.Trace.{mail_line, mails_of, start_in}
+use Rattle.bs_report.proofs.traces.write_mails.Given as goal
+
+abbrev pub invariant-loop-place : goal.invariant-loop-place
+invariant-loop-place l =
+    string_bytes l.text ++ flat_map (mail_line l.log (machine_of l.machine) (start_in (numbers l.starts))) (mails_of (l.place + 1) (drop l.place l.log.rows))
+    ≡ string_bytes l.initial.text ++ flat_map (mail_line l.log (machine_of l.machine) (start_in (numbers l.starts))) (mails_of 1 l.log.rows)
