@@ -29,7 +29,7 @@ use std::fmt::Write;
 /// message leaves at its sender's start and the duration of its offset, and comes a latency later.
 ///
 /// Rows are numbered from 1, and so are the sends of a row; processors are numbered from 0. Times are in
-/// ticks. The time that the call takes is near-linear in the log. The only refusal is want of memory.
+/// ticks: each start is below 2^109, and a row takes from 1 to 2^48. The time that the call takes is near-linear in the log. The only refusal is want of memory.
 pub fn trace(
     alloc: Global,
     log: &Log,
