@@ -1,6 +1,5 @@
 -- What a step has read stays within the bounds of its command.
-use Rattle.std.proofs.Common.{◌≡◌, ◌≤◌, ℕ, inl, inr, arith, Result, Ok, Err}
-use Rattle.std.specs.Prelude.{◌⊎◌}
+use Rattle.std.proofs.Common.{◌≤◌, ℕ, inl, inr, arith, Result, Ok, Err}
 use Rattle.bs_desk.specs.Outside.{Outside}
 use Rattle.bs_report.specs.declared.faults.Fault.{Fault}
 use Rattle.bs_report.specs.declared.faults.Fault.TheVariants as fault
@@ -21,6 +20,7 @@ module _ (most : ℕ) (new : Outside) where
   fault_computed (fault.BadLog why) c h = h
   fault_computed (fault.Ambiguous twice) c h = h
   fault_computed (fault.TooLong limit) c h = h
+  fault_computed (fault.BudgetSpent spent) c h = h
   fault_computed (fault.TooBig limit) c h = absurd c
 
   module _ (wide : file_limit ≤ most) where
@@ -40,6 +40,7 @@ module _ (most : ℕ) (new : Outside) where
     fault_wider (fault.BadLog why) h = has_read h
     fault_wider (fault.Ambiguous twice) h = has_read h
     fault_wider (fault.TooLong limit) h = has_read h
+    fault_wider (fault.BudgetSpent spent) h = has_read h
     fault_wider (fault.TooBig limit) h = (h.0, h.1, bound limit h.2)
 
 module _ (most : ℕ) (old new : Outside) where

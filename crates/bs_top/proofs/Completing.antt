@@ -1,5 +1,5 @@
 -- What comes of files that hold all that a command needs.
-use Rattle.std.proofs.Common.{◌≡◌, ℕ, List, length, true, refl, ap, ◌∙◌, inl, inr, Option, Some, Result, Ok, Err, arith}
+use Rattle.std.proofs.Common.{◌≡◌, ◌≤◌, ◌<◌, ℕ, List, length, true, refl, ap, subst, ◌∙◌, inl, inr, Option, None, Some, Result, Ok, Err, arith}
 use Rattle.bs_desk.specs.Outside.{Outside, Files}
 use Rattle.bs_log.specs.Collected.{log_of}
 use Rattle.bs_log.specs.declared.history.History.{History}
@@ -13,17 +13,48 @@ use Rattle.bs_tree.specs.declared.tree.Program.{Program}
 use Rattle.bs_top.specs.declared.status.Status.{Status}
 use Rattle.bs_top.specs.declared.status.Status.TheVariants as status
 use Rattle.bs_top.specs.declared.stop.Stop.{Stop}
-use Rattle.bs_top.specs.Answer.{Answer, IsAnswer, accepted, answer_of, contents, file_limit, fits, judged, kept_in, log_in, log_limit, log_named, logged, machine_named, or_bad_machine, predicted, program_in, reply_to, serial_run, simulated, timed_on}
-use Rattle.bs_top.specs.Complete.{CanEmulate, CanPredict, CanRun, Ends, HasFile, HasLog, HasMachine, HasProgram, IsPredicted, IsReported, canonical, logged_in}
+use Rattle.bs_settle.specs.declared.settling.BudgetSpent.{BudgetSpent}
+use Rattle.bs_times.specs.Times.{budget}
+use Rattle.bs_top.specs.Answer as step
+use Rattle.bs_top.specs.Answer.{Answer, IsAnswer, IsTooFew, accepted, answer_of, budget_of, contents, file_limit, fits, journaled, journaled_on, judged, kept_in, log_in, log_limit, log_named, logged, machine_named, or_bad_machine, predicted, printed, program_in, ran, reply_to, serial_run, simulated, timed_on, trace_on, traced, within}
+use Rattle.bs_top.specs.Complete.{CanEmulate, CanPredict, CanRun, Ends, HasFile, HasLog, HasMachine, HasProgram, IsAmple, IsAmpleFor, IsJournaled, IsPredicted, IsReported, IsTraced, logged_in}
 use Rattle.bs_top.specs.Performs.{Answers, WritesAnswer}
-use Rattle.bs_top.specs.Step.{Said, and_then}
-use Rattle.bs_top.specs.Words.{Asked, MachineWord, check, model, emulate, run, predict, flat, file}
-use Rattle.bs_top.proofs.OneAnswer.{OneSerial, OneVerdict, one_accepted, one_contents, one_fit, one_judged, one_named, one_reply}
+use Rattle.bs_top.specs.Step.{Said, Step, and_then}
+use Rattle.bs_top.specs.Words.{Asked, MachineWord, check, model, emulate, run, predict, trace, flat, file}
+use Rattle.bs_top.proofs.OneAnswer.{OneSerial, OneVerdict, one_accepted, one_contents, one_fit, one_judged, one_logged, one_named, one_reply}
 use Rattle.bs_top.proofs.OneLog.{LogLaws, one_log}
 use Rattle.bs_top.proofs.OneStep.{past}
 use Rattle.bs_top.proofs.Reading.{read_whole}
-use Rattle.bs_top.proofs.AsModel.{answers_as_model}
+use Rattle.bs_top.proofs.AsModel.{nothing, stopped_at}
 use Rattle.bs_top.proofs.Simulating.{is_accepted}
+
+-- a number of waves that is enough isn't spent
+not_spent : (kept : Log) (m : MachineOf) (most : ℕ) (spent : BudgetSpent) → budget_of kept ≤ most → IsTooFew kept m most spent → ⊥
+not_spent kept m most spent ample h =
+    let few = subst (λ net. most < budget net) h.1.is_net h.2.few in
+    omega (arith, few, ample)
+
+no_stop : {A : Type 0} (stop : Stop) → nothing ≡ stopped_at stop → A
+no_stop stop e = absurd (cc)
+
+past_waves : (next : Step Said) (waves : Option ℕ) (kept : Log) (m : MachineOf) → IsAmple waves kept → (r : Result Said Stop) → and_then (within waves kept m) (λ _. next) r → next r
+unfolding within
+past_waves next None kept m ample (Ok said) h = h.2
+past_waves next None kept m ample (Err stop) (inl e) = no_stop stop e
+past_waves next None kept m ample (Err stop) (inr h) = h.2
+past_waves next (Some most) kept m ample (Ok said) h = h.2
+past_waves next (Some most) kept m ample (Err stop) (inl h) = absurd (not_spent kept m most h.0 ample h.1)
+past_waves next (Some most) kept m ample (Err stop) (inr h) = h.2
+
+is_journal : (waves : Option ℕ) (into : List ℕ) (kept : Log) (m : MachineOf) → IsAmple waves kept → (r : Result Said Stop) (a : Answer) → journaled_on waves into kept m r → a ≡ answer_of r → IsJournaled waves into kept m a
+is_journal waves into kept m ample (Ok said) a (inl h) is = (said, h, is)
+is_journal None into kept m ample (Ok said) a (inr h) is = absurd (not_spent kept m (budget_of kept) h.spent (omega arith) h.is_spent)
+is_journal (Some most) into kept m ample (Ok said) a (inr h) is = absurd (not_spent kept m most h.spent ample h.is_spent)
+is_journal waves into kept m ample (Err stop) a h is = absurd h
+
+is_trace : (kept : Log) (m : MachineOf) (r : Result Said Stop) (a : Answer) → trace_on kept m r → a ≡ answer_of r → IsTraced kept m a
+is_trace kept m (Ok said) a h is = (said, h, is)
+is_trace kept m (Err stop) a h is = absurd h
 
 module _ (files : Files) where
   reads : (name bytes : List ℕ) → HasFile files name bytes → contents file_limit files name (Ok bytes)
@@ -46,7 +77,7 @@ module _ (files : Files) where
   unfolding fits
   fitting chares m h = rw h refl
 
-  prints : (name : List ℕ) (p : Program) → HasProgram files name p → reply_to files (Some (check name)) (Ok (canonical p))
+  prints : (name : List ℕ) (p : Program) → HasProgram files name p → reply_to files (Some (check name)) (Ok (printed p))
   unfolding reply_to
   prints name p h = (p, accepts name p h, refl)
 
@@ -59,12 +90,12 @@ module _ (files : Files) where
   reported p m limit (Err stop) a h is = absurd h
 
   module _ (program : OneProgram) (fault_is : OneFault) (not_both : NotBoth) (verdict : OneVerdict) (serial : OneSerial) (logs_known : LogLaws) where
-    pub checks : (name : List ℕ) (p : Program) (a : Answer) → HasProgram files name p → IsAnswer files (Some (check name)) a → a ≡ answer_of (Ok (canonical p))
-    checks name p a has is = is.is_answer ∙ ap answer_of (one_reply program fault_is not_both verdict serial logs_known files (Some (check name)) is.reply (Ok (canonical p)) is.is_reply (prints name p has))
+    pub checks : (name : List ℕ) (p : Program) (a : Answer) → HasProgram files name p → IsAnswer files (Some (check name)) a → a ≡ answer_of (Ok (printed p))
+    checks name p a has is = is.is_answer ∙ ap answer_of (one_reply program fault_is not_both verdict serial logs_known files (Some (check name)) is.reply (Ok (printed p)) is.is_reply (prints name p has))
 
-    ran : (p : Program) (m : MachineOf) (limit : ℕ) (r : Result Said Stop) → has_length m.place p.chares ≡ true → judged p limit (Ok tt) → simulated p m limit r → serial_run p m limit r
+    by_model : (p : Program) (m : MachineOf) (limit : ℕ) (r : Result Said Stop) → has_length m.place p.chares ≡ true → judged p limit (Ok tt) → simulated p m limit r → serial_run p m limit r
     unfolding simulated
-    ran p m limit r fit is h =
+    by_model p m limit r fit is h =
         past (judged p limit) (λ _. serial_run p m limit) (one_judged program fault_is not_both verdict serial logs_known p limit) tt is r
         (past (fits p.chares m) (λ _. and_then (judged p limit) (λ _. serial_run p m limit)) (one_fit p.chares m) tt (fitting p.chares m fit) r h)
 
@@ -73,7 +104,7 @@ module _ (files : Files) where
     unfolding reply_to
     runs name word limit p m r can h =
         let one = one_accepted program fault_is not_both verdict serial logs_known files name in
-        ran p m limit r can.is_fitting (is_judged p limit can.is_clean)
+        by_model p m limit r can.is_fitting (is_judged p limit can.is_clean)
         (past (machine_named files word) (λ m. simulated p m limit) (one_named files word) m (names word m can.machine) r
         (past (accepted files name) (λ p. and_then (machine_named files word) (λ m. simulated p m limit)) one p (accepts name p can.program) r h))
 
@@ -81,13 +112,31 @@ module _ (files : Files) where
         → CanRun files name word limit p m → IsAnswer files (Some (model name word limit)) a → IsReported p m limit a
     reports name word limit p m a can is = reported p m limit is.reply a (runs name word limit p m is.reply can is.is_reply) is.is_answer
 
-    pub reports_run : (name : List ℕ) (word : MachineWord) (limit : ℕ) (p : Program) (m : MachineOf) (a : Answer)
-        → CanRun files name word limit p m → IsAnswer files (Some (run name word limit)) a → IsReported p m limit a
-    reports_run name word limit p m a can is = reports name word limit p m a can (answers_as_model files name word limit a is)
-
     logs : (p : Program) (limit : ℕ) (histories : List History) → IsVerdict p limit (clean histories) → logged p limit (Ok (log_of histories (length p.entries)))
     unfolding logged
     logs p limit histories h = (clean histories, h, refl)
+
+    ran_on : (waves : Option ℕ) (p : Program) (m : MachineOf) (limit : ℕ) (r : Result Said Stop) → has_length m.place p.chares ≡ true → (histories : List History) → IsVerdict p limit (clean histories)
+        → IsAmple waves (log_of histories (length p.entries)) → ran waves p m limit r → serial_run p m limit r
+    unfolding ran
+    ran_on waves p m limit r fit histories is ample h =
+        let kept = log_of histories (length p.entries) in
+        past_waves (serial_run p m limit) waves kept m ample r
+        (past (logged p limit) (λ kept. and_then (within waves kept m) (λ _. serial_run p m limit)) (one_logged program fault_is not_both verdict serial logs_known p limit) kept (logs p limit histories is) r
+        (past (fits p.chares m) (λ _. and_then (logged p limit) (λ kept. and_then (within waves kept m) (λ _. serial_run p m limit))) (one_fit p.chares m) tt (fitting p.chares m fit) r h))
+
+    runs_on : (name : List ℕ) (word : MachineWord) (limit : ℕ) (waves : Option ℕ) (p : Program) (m : MachineOf) (r : Result Said Stop)
+        → CanRun files name word limit p m → IsAmpleFor waves p limit → reply_to files (Some (run name word limit waves)) r → serial_run p m limit r
+    unfolding reply_to
+    runs_on name word limit waves p m r can ample h =
+        let one = one_accepted program fault_is not_both verdict serial logs_known files name in
+        ran_on waves p m limit r can.is_fitting can.is_clean.0 can.is_clean.1 (ample can.is_clean.0 can.is_clean.1)
+        (past (machine_named files word) (λ m. ran waves p m limit) (one_named files word) m (names word m can.machine) r
+        (past (accepted files name) (λ p. and_then (machine_named files word) (λ m. ran waves p m limit)) one p (accepts name p can.program) r h))
+
+    pub reports_run : (name : List ℕ) (word : MachineWord) (limit : ℕ) (waves : Option ℕ) (p : Program) (m : MachineOf) (a : Answer)
+        → CanRun files name word limit p m → IsAmpleFor waves p limit → IsAnswer files (Some (run name word limit waves)) a → IsReported p m limit a
+    reports_run name word limit waves p m a can ample is = reported p m limit is.reply a (runs_on name word limit waves p m is.reply can ample is.is_reply) is.is_answer
 
     keeps : (name into : List ℕ) (limit : ℕ) (p : Program) (histories : List History) → CanEmulate files name limit p histories
         → reply_to files (Some (emulate name into limit)) (Ok (kept_in into (log_of histories (length p.entries))))
@@ -107,22 +156,48 @@ module _ (files : Files) where
     foretold kept m (Ok said) a h is = (said, h, is)
     foretold kept m (Err stop) a h is = absurd h
 
-    on_machine : (kept : Log) (m : MachineOf) (r : Result Said Stop) → has_length m.place kept.chares ≡ true → predicted kept m r → timed_on kept m r
+    on_machine : (waves : Option ℕ) (kept : Log) (m : MachineOf) (r : Result Said Stop) → has_length m.place kept.chares ≡ true → IsAmple waves kept → predicted waves kept m r → timed_on kept m r
     unfolding predicted
-    on_machine kept m r fit h = past (fits kept.chares m) (λ _. timed_on kept m) (one_fit kept.chares m) tt (fitting kept.chares m fit) r h
+    on_machine waves kept m r fit ample h = past_waves (timed_on kept m) waves kept m ample r
+        (past (fits kept.chares m) (λ _. and_then (within waves kept m) (λ _. timed_on kept m)) (one_fit kept.chares m) tt (fitting kept.chares m fit) r h)
 
-    foretells : (name : List ℕ) (word : MachineWord) (kept : Log) (m : MachineOf) (r : Result Said Stop)
-        → CanPredict files name word kept m → reply_to files (Some (predict name word)) r → timed_on kept m r
-    unfolding reply_to
-    foretells name word kept m r can h =
+    with_journal : (waves : Option ℕ) (into : List ℕ) (kept : Log) (m : MachineOf) (r : Result Said Stop) → has_length m.place kept.chares ≡ true → journaled waves into kept m r → journaled_on waves into kept m r
+    unfolding journaled
+    with_journal waves into kept m r fit h = past (fits kept.chares m) (λ _. journaled_on waves into kept m) (one_fit kept.chares m) tt (fitting kept.chares m fit) r h
+
+    with_trace : (kept : Log) (m : MachineOf) (r : Result Said Stop) → has_length m.place kept.chares ≡ true → traced kept m r → trace_on kept m r
+    unfolding traced
+    with_trace kept m r fit h = past (fits kept.chares m) (λ _. trace_on kept m) (one_fit kept.chares m) tt (fitting kept.chares m fit) r h
+
+    -- past the log and the machine
+    on_both : (name : List ℕ) (word : MachineWord) (next : Log → MachineOf → Step Said) (kept : Log) (m : MachineOf) (r : Result Said Stop)
+        → CanPredict files name word kept m → and_then (log_named files name) (λ kept. and_then (machine_named files word) (λ m. next kept m)) r → next kept m r
+    on_both name word next kept m r can h =
         let one = one_log logs_known files name (one_contents log_limit files name) in
-        on_machine kept m r can.is_fitting
-        (past (machine_named files word) (λ m. predicted kept m) (one_named files word) m (names word m can.machine) r
-        (past (log_named files name) (λ kept. and_then (machine_named files word) (λ m. predicted kept m)) one kept (names_log name kept can.log) r h))
+        past (machine_named files word) (λ m. next kept m) (one_named files word) m (names word m can.machine) r
+        (past (log_named files name) (λ kept. and_then (machine_named files word) (λ m. next kept m)) one kept (names_log name kept can.log) r h)
 
-    pub predicts : (name : List ℕ) (word : MachineWord) (kept : Log) (m : MachineOf) (a : Answer)
-        → CanPredict files name word kept m → IsAnswer files (Some (predict name word)) a → IsPredicted kept m a
-    predicts name word kept m a can is = foretold kept m is.reply a (foretells name word kept m is.reply can is.is_reply) is.is_answer
+    foretells : (name : List ℕ) (word : MachineWord) (waves : Option ℕ) (journal : Option (List ℕ)) (kept : Log) (m : MachineOf) (r : Result Said Stop)
+        → CanPredict files name word kept m → reply_to files (Some (predict name word waves journal)) r → step.foretold waves journal kept m r
+    unfolding reply_to
+    foretells name word waves journal kept m r can h = on_both name word (step.foretold waves journal) kept m r can h
+
+    traces_on : (name : List ℕ) (word : MachineWord) (kept : Log) (m : MachineOf) (r : Result Said Stop) → CanPredict files name word kept m → reply_to files (Some (trace name word)) r → traced kept m r
+    unfolding reply_to
+    traces_on name word kept m r can h = on_both name word traced kept m r can h
+
+    pub predicts : (name : List ℕ) (word : MachineWord) (waves : Option ℕ) (kept : Log) (m : MachineOf) (a : Answer)
+        → CanPredict files name word kept m → IsAmple waves kept → IsAnswer files (Some (predict name word waves None)) a → IsPredicted kept m a
+    predicts name word waves kept m a can ample is =
+        foretold kept m is.reply a (on_machine waves kept m is.reply can.is_fitting ample (foretells name word waves None kept m is.reply can is.is_reply)) is.is_answer
+
+    pub journals : (name into : List ℕ) (word : MachineWord) (waves : Option ℕ) (kept : Log) (m : MachineOf) (a : Answer)
+        → CanPredict files name word kept m → IsAmple waves kept → IsAnswer files (Some (predict name word waves (Some into))) a → IsJournaled waves into kept m a
+    journals name into word waves kept m a can ample is =
+        is_journal waves into kept m ample is.reply a (with_journal waves into kept m is.reply can.is_fitting (foretells name word waves (Some into) kept m is.reply can is.is_reply)) is.is_answer
+
+    pub traces : (name : List ℕ) (word : MachineWord) (kept : Log) (m : MachineOf) (a : Answer) → CanPredict files name word kept m → IsAnswer files (Some (trace name word)) a → IsTraced kept m a
+    traces name word kept m a can is = is_trace kept m is.reply a (with_trace kept m is.reply can.is_fitting (traces_on name word kept m is.reply can is.is_reply)) is.is_answer
 
 -- what holds of each answer holds of the one that was written
 module _ (files : Files) (asked : Option Asked) (P : Answer → Type 0) (each : (a : Answer) → IsAnswer files asked a → P a) (old new : Outside) where
@@ -140,6 +215,7 @@ module _ (files : Files) (asked : Option Asked) (P : Answer → Type 0) (each : 
   ends status.BadLog h = whole status.BadLog h
   ends status.AmbiguousMatch h = whole status.AmbiguousMatch h
   ends status.TooLong h = whole status.TooLong h
+  ends status.BudgetSpent h = whole status.BudgetSpent h
   ends status.TooBig h = whole status.TooBig h
   ends status.ReadFault h = inl tt
   ends status.WriteFault h = inl tt

@@ -2,7 +2,7 @@
 use Rattle.std.proofs.Common.{◌≡◌, ℕ, List, [], refl, sym, ap, ap₂, ◌∙◌, append-nil, Option, Some, None}
 use Rattle.std.specs.FinMap as map
 use Rattle.bs_desk.specs.Outside.{Outside, IsReading, more_told}
-use Rattle.bs_top.specs.Place.{Place, output, errors, in_file, put}
+use Rattle.bs_top.specs.Place.{Note, Place, output, errors, in_file, noted, put}
 use Rattle.bs_top.specs.Performs.{Keeps}
 use Rattle.std.specs.Option.{option_map}
 
@@ -111,3 +111,8 @@ kept_silent old new r = λ i. record {
   read_faults = new.read_faults;
   write_faults = new.write_faults;
 }
+
+-- reading before a note is as reading beside it
+pub reading_noted : (note : Option Note) (old mid : Outside) → IsReading old mid → IsReading (noted note old) (noted note mid)
+reading_noted None old mid r = r
+reading_noted (Some note) old mid r = ap (put (in_file note.name) note.text) r

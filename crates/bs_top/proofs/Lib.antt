@@ -1,6 +1,7 @@
 mod Stages
 mod Kept
 mod Saved
+mod Placed
 mod Reading
 mod Machines
 mod Simulating
@@ -14,6 +15,8 @@ mod OneAnswer
 mod Limits
 mod AsModel
 mod Bounded
+mod Waving
+mod Enough
 mod Foretelling
 mod OneLog
 mod Foretold

@@ -1,8 +1,8 @@
--- The limit of a command is from 1 to 262,144.
+-- The limit of a command is from 1 to 262,144, and its number of waves from 1 to 2^40.
 use Rattle.std.proofs.Common.{◌≡◌, ◌≤◌, ℕ, List, Bool, true, false, Option, Some, None, Result, Ok, Err, refl, subst, arith, nat_le, if◌then◌else◌}
 use Rattle.std.proofs.lemmas.Bool.Decides.{nat_tests}
 use Rattle.std.specs.Prelude.{IfOk, ◌&&◌}
-use Rattle.std.specs.Option.{option_and_then}
+use Rattle.std.specs.Option.{option_and_then, option_map}
 use Rattle.bs_num.specs.Decimal.{number_in}
 use Rattle.bs_num.specs.declared.fault.NumFault.{NumFault}
 use Rattle.bs_num.proofs.RoundTrip.{number_most}
@@ -12,7 +12,7 @@ use Rattle.bs_words.specs.Roles.{are_in_roles, at_least}
 use Rattle.bs_words.specs.Texts.{Texts}
 use Rattle.bs_words.specs.Verbs.{roles_of, verb_of}
 use Rattle.bs_words.specs.declared.command.Command.{Command}
-use Rattle.bs_top.specs.Words.{IsLimit}
+use Rattle.bs_top.specs.Words.{AreWaves, IsLimit}
 
 -- what went before something that is there
 given : {A B : Type 0} (o : Option A) (f : A → Option B) (b : B) → option_and_then f o ≡ Some b → (a : A) × (o ≡ Some a) × (f a ≡ Some b)
@@ -45,7 +45,19 @@ of_number (Some text) n e = from_least (number_in 262144 text) n (number_most 26
 holds_of : {A : Type 0} (b a : A) (P : A → Type 0) → Some a ≡ Some b → P a → P b
 holds_of b a P e h = subst P (same a b e) h
 
-of_command : (texts : Texts) (command : Command) → command_of texts ≡ Some command → IsLimit command.limit
+most_is : (t : Bool) (m : ℕ) (n : Option ℕ) → nat_le 1 m ≡ t → m ≤ 1099511627776 → option_map (λ k. Some k) (if t then Some m else None) ≡ Some n → AreWaves n
+most_is true m n is most e = subst AreWaves (same (Some m) n e) (grind (arith, nat_tests, is), most)
+most_is false m n is most e = absurd (cc)
+
+from_waves : (r : Result ℕ NumFault) (n : Option ℕ) → IfOk r (λ m. m ≤ 1099511627776) → option_map (λ k. Some k) (at_least 1 r) ≡ Some n → AreWaves n
+from_waves (Ok m) n most e = most_is (nat_le 1 m) m n refl most e
+from_waves (Err why) n most e = absurd (cc)
+
+of_waves : (text : Option (List ℕ)) (n : Option ℕ) → number_if 1 1099511627776 text ≡ Some n → AreWaves n
+of_waves None n e = subst AreWaves (same None n e) tt
+of_waves (Some text) n e = from_waves (number_in 1099511627776 text) n (number_most 1099511627776 text) e
+
+of_command : (texts : Texts) (command : Command) → command_of texts ≡ Some command → IsLimit command.limit × AreWaves command.waves
 of_command texts command e =
     let verb = given (verb_of texts.command) _ command e in
     let fit = then_is (are_in_roles (roles_of verb.0) texts.names && settings_fit verb.0 texts) _ command verb.2 in
@@ -53,8 +65,13 @@ of_command texts command e =
     let limit = given (number_or 262144 1 262144 texts.limit) _ numbers.0 numbers.1 in
     let workers = given (number_or 1 1 64 texts.workers) _ numbers.0 limit.2 in
     let waves = given (number_if 1 1099511627776 texts.waves) _ numbers.0 workers.2 in
-    let is = else_is _ _ numbers.0 waves.2 in
-    holds_of command _ (λ c. IsLimit c.limit) numbers.2 (holds_of numbers.0 _ (λ n. IsLimit n.limit) is (of_number texts.limit limit.0 limit.1))
+    let is = else_is _ _ numbers.0 waves.2 in (
+      holds_of command _ (λ c. IsLimit c.limit) numbers.2 (holds_of numbers.0 _ (λ n. IsLimit n.limit) is (of_number texts.limit limit.0 limit.1)),
+      holds_of command _ (λ c. AreWaves c.waves) numbers.2 (holds_of numbers.0 _ (λ n. AreWaves n.waves) is (of_waves texts.waves waves.0 waves.1)),
+    )
 
 pub limit_of : (words : List (List ℕ)) (command : Command) → command_in words ≡ Some command → IsLimit command.limit
-limit_of words command e = let texts = given (reading words) command_of command e in of_command texts.0 command texts.2
+limit_of words command e = let texts = given (reading words) command_of command e in (of_command texts.0 command texts.2).0
+
+pub waves_of : (words : List (List ℕ)) (command : Command) → command_in words ≡ Some command → AreWaves command.waves
+waves_of words command e = let texts = given (reading words) command_of command e in (of_command texts.0 command texts.2).1

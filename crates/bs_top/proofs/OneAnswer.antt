@@ -5,24 +5,24 @@ use Rattle.bs_desk.specs.Outside.{Files}
 use Rattle.bs_check.specs.Refusal.{Broken, IsRefused, refusal}
 use Rattle.bs_check.specs.declared.fault.CheckFault.{CheckFault}
 use Rattle.bs_check.specs.declared.fault.CheckFault.TheVariants as check
-use Rattle.bs_log.specs.declared.outcome.End.TheVariants as end
-use Rattle.bs_print.specs.Canonical.{text_of}
+use Rattle.bs_log.specs.declared.log.Log.{Log}
 use Rattle.bs_log.specs.declared.outcome.Outcome.{Outcome}
 use Rattle.bs_machine.specs.File.{machine_in}
 use Rattle.bs_machine.specs.Machine.{MachineOf, flat_in}
-use Rattle.bs_times.specs.Machine.{machine_of}
+use Rattle.bs_times.specs.Machine.{IsTimely, machine_of}
+use Rattle.bs_times.specs.Net.{Causal, net_of}
 use Rattle.bs_parse.specs.TextLaws.{OneProgram, OneFault, NotBoth}
 use Rattle.bs_report.specs.declared.faults.Fault.TheVariants as fault
 use Rattle.bs_semantics.specs.Serial.{IsSerial, Machine, Simulated, timed}
 use Rattle.bs_semantics.specs.Verdict.{IsVerdict, Verdict}
 use Rattle.bs_tree.specs.declared.tree.Program.{Program}
 use Rattle.bs_top.specs.declared.stop.Stop.TheVariants.{Refused}
-use Rattle.bs_top.specs.Answer.{Answer, IsAnswer, IsReport, accepted, answer_of, checked, contents, file_limit, fits, if_clean, judged, kept_in, log_if_clean, log_limit, logged, log_named, machine_named, or_bad_machine, predicted, program_in, reply_to, reported, serial_run, simulated, whole}
-use Rattle.bs_top.specs.Place.{output}
+use Rattle.bs_top.specs.Answer.{Answer, IsAnswer, IsReport, accepted, answer_of, checked, contents, file_limit, fits, foretold, if_clean, judged, kept_in, log_if_clean, log_limit, logged, log_named, machine_named, or_bad_machine, printed, program_in, ran, reply_to, reported, serial_run, simulated, traced, whole, within}
 use Rattle.bs_top.specs.Step.{Said, and_then, gives}
-use Rattle.bs_top.specs.Words.{Asked, check as check_asked, model, emulate, run, predict, MachineWord, flat, file}
+use Rattle.bs_top.specs.Words.{Asked, check as check_asked, model, emulate, run, predict, trace, MachineWord, flat, file}
 use Rattle.bs_top.proofs.OneMachine.{one_machine}
-use Rattle.bs_top.proofs.OneLog.{LogLaws, one_log, one_predicted, valid_log}
+use Rattle.bs_top.proofs.OneLog.{LogLaws, one_foretold, one_log, one_traced, one_within, valid_log}
+use Rattle.bs_top.proofs.Simulating.{histories_of}
 use Rattle.bs_top.proofs.OneStep.{IsOne, one_after, one_given, one_where}
 
 abbrev pub OneSerial : Type 0
@@ -90,7 +90,7 @@ module _ (program : OneProgram) (fault_is : OneFault) (not_both : NotBoth) (verd
       let machine = one_machine k.fitted h.fitted (k.is_machine ∙ sym h.is_machine) (k.is_fitted ∙ sym h.is_fitted) in
       outcome_is h.outcome k.outcome (serial p limit (machine_of h.fitted) (timed h.outcome) (timed k.outcome) h.is_outcome (subst (λ m. IsSerial p limit m (timed k.outcome)) machine k.is_outcome))
 
-  one_run : (p : Program) (m : MachineOf) (limit : ℕ) → IsOne (serial_run p m limit)
+  pub one_run : (p : Program) (m : MachineOf) (limit : ℕ) → IsOne (serial_run p m limit)
   one_run p m limit (Ok a) (Ok b) h k =
       ap (λ s. Ok s) (h.is_said ∙ ap reported (same_outcome p m limit a b h k) ∙ sym k.is_said)
   one_run p m limit (Ok a) (Err s) h k = absurd k
@@ -100,6 +100,15 @@ module _ (program : OneProgram) (fault_is : OneFault) (not_both : NotBoth) (verd
   unfolding simulated
   one_simulated p m limit = one_after (fits p.chares m) (λ _. and_then (judged p limit) (λ _. serial_run p m limit)) (one_fit p.chares m)
       (λ _. one_after (judged p limit) (λ _. serial_run p m limit) (one_judged p limit) (λ _. one_run p m limit))
+
+  log_causal : (p : Program) (limit : ℕ) (kept : Log) → logged p limit (Ok kept) → (machine : Machine) → IsTimely machine → Causal (net_of kept machine)
+  log_causal p limit kept is machine timely = let of = histories_of p limit kept is in subst (λ k. Causal (net_of k machine)) (sym of.2) (logs.run_causal p limit machine of.0 timely of.1)
+
+  pub one_ran : (waves : Option ℕ) (p : Program) (m : MachineOf) (limit : ℕ) → IsOne (ran waves p m limit)
+  unfolding ran
+  one_ran waves p m limit = one_after (fits p.chares m) (λ _. and_then (logged p limit) (λ kept. and_then (within waves kept m) (λ _. serial_run p m limit))) (one_fit p.chares m)
+      (λ _. one_where (logged p limit) (λ kept. and_then (within waves kept m) (λ _. serial_run p m limit)) (one_logged p limit)
+      (λ kept is. one_after (within waves kept m) (λ _. serial_run p m limit) (one_within logs kept (log_causal p limit kept is) m waves) (λ _. one_run p m limit)))
 
   pub one_accepted : (files : Files) (name : List ℕ) → IsOne (accepted files name)
   unfolding accepted
@@ -112,20 +121,23 @@ module _ (program : OneProgram) (fault_is : OneFault) (not_both : NotBoth) (verd
   unfolding reply_to
   one_reply files None = one_given (Err (Refused fault.BadWords))
   one_reply files (Some (check_asked name)) =
-      one_after (accepted files name) (λ p. gives (Ok (record { end = end.Settled; place = output; text = text_of p }))) (one_accepted files name)
-      (λ p. one_given (Ok (record { end = end.Settled; place = output; text = text_of p })))
+      one_after (accepted files name) (λ p. gives (Ok (printed p))) (one_accepted files name)
+      (λ p. one_given (Ok (printed p)))
   one_reply files (Some (model name word limit)) =
       one_after (accepted files name) (λ p. and_then (machine_named files word) (λ m. simulated p m limit)) (one_accepted files name)
       (λ p. one_after (machine_named files word) (λ m. simulated p m limit) (one_named files word) (λ m. one_simulated p m limit))
   one_reply files (Some (emulate name into limit)) =
       one_after (accepted files name) (λ p. and_then (logged p limit) (λ kept. gives (Ok (kept_in into kept)))) (one_accepted files name)
       (λ p. one_after (logged p limit) (λ kept. gives (Ok (kept_in into kept))) (one_logged p limit) (λ kept. one_given (Ok (kept_in into kept))))
-  one_reply files (Some (run name word limit)) =
-      one_after (accepted files name) (λ p. and_then (machine_named files word) (λ m. simulated p m limit)) (one_accepted files name)
-      (λ p. one_after (machine_named files word) (λ m. simulated p m limit) (one_named files word) (λ m. one_simulated p m limit))
-  one_reply files (Some (predict name word)) =
-      one_where (log_named files name) (λ kept. and_then (machine_named files word) (λ m. predicted kept m)) (one_log logs files name (one_contents log_limit files name))
-      (λ kept is. one_after (machine_named files word) (λ m. predicted kept m) (one_named files word) (λ m. one_predicted logs kept (valid_log files name kept is) m (one_fit kept.chares m)))
+  one_reply files (Some (run name word limit waves)) =
+      one_after (accepted files name) (λ p. and_then (machine_named files word) (λ m. ran waves p m limit)) (one_accepted files name)
+      (λ p. one_after (machine_named files word) (λ m. ran waves p m limit) (one_named files word) (λ m. one_ran waves p m limit))
+  one_reply files (Some (predict name word waves journal)) =
+      one_where (log_named files name) (λ kept. and_then (machine_named files word) (λ m. foretold waves journal kept m)) (one_log logs files name (one_contents log_limit files name))
+      (λ kept is. one_after (machine_named files word) (λ m. foretold waves journal kept m) (one_named files word) (λ m. one_foretold logs kept (valid_log files name kept is) m (one_fit kept.chares m) waves journal))
+  one_reply files (Some (trace name word)) =
+      one_where (log_named files name) (λ kept. and_then (machine_named files word) (λ m. traced kept m)) (one_log logs files name (one_contents log_limit files name))
+      (λ kept is. one_after (machine_named files word) (λ m. traced kept m) (one_named files word) (λ m. one_traced logs kept (valid_log files name kept is) m (one_fit kept.chares m)))
 
   pub one : (files : Files) (asked : Option Asked) (a b : Answer) → IsAnswer files asked a → IsAnswer files asked b → a ≡ b
   one files asked a b h k = h.is_answer ∙ ap answer_of (one_reply files asked h.reply k.reply h.is_reply k.is_reply) ∙ sym k.is_answer

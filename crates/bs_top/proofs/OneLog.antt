@@ -1,7 +1,13 @@
--- A text is that of one log at most, or has one first fault, and a log has one prediction on a machine.
-use Rattle.std.proofs.Common.{◌≡◌, ◌<◌, ℕ, List, length, sym, ap, ◌∙◌, subst, Ok, Err}
+-- A text is that of one log at most, or has one first fault, and a log has one prediction on a machine, one journal and one
+-- trace.
+use Rattle.std.proofs.Common.{◌≡◌, ◌≤◌, ◌<◌, ◌+◌, ℕ, Bool, true, false, List, [], ◌∷◌, length, refl, sym, ap, ap₂, ◌∙◌, subst, inl, inr, Option, None, Some, Ok, Err, arith}
 use Rattle.bs_desk.specs.Outside.{Files}
+use Rattle.bs_line.specs.declared.corrections.Correction.{Correction}
+use Rattle.bs_log.specs.Collected.{log_of}
+use Rattle.bs_log.specs.End as log
+use Rattle.bs_log.specs.declared.history.History.{History}
 use Rattle.bs_log.specs.declared.log.Log.{Log}
+use Rattle.bs_log.specs.declared.log.Row.{Row}
 use Rattle.bs_log.specs.Valid.{IsValid}
 use Rattle.bs_logcheck.specs.declared.rule.LogRule.{LogRule}
 use Rattle.bs_logread.specs.Fault.{IsFault}
@@ -11,14 +17,24 @@ use Rattle.bs_logtext.specs.Text.{log_text}
 use Rattle.bs_machine.specs.Machine.{MachineOf}
 use Rattle.bs_machine.specs.declared.fitted.Fitted.{Fitted}
 use Rattle.bs_report.specs.declared.faults.Fault.TheVariants as fault
+use Rattle.bs_report.specs.Fault.{fault_text}
+use Rattle.bs_report.specs.Trace.{trace_text}
+use Rattle.bs_settle.specs.Noted.{AreNoted}
+use Rattle.bs_settle.specs.Settled.{IsSpent, StillAt}
+use Rattle.bs_settle.specs.Timed.{starts_from}
+use Rattle.bs_settle.specs.declared.settling.BudgetSpent.{BudgetSpent}
 use Rattle.bs_semantics.specs.Serial.{Machine}
+use Rattle.bs_semantics.specs.Verdict.{IsVerdict, clean}
+use Rattle.bs_tree.specs.declared.tree.Program.{Program}
 use Rattle.bs_times.specs.Machine.{IsTimely, machine_of}
-use Rattle.bs_times.specs.Net.{Starts, net_of}
+use Rattle.bs_times.specs.Net.{Causal, HasRow, Net, Starts, Ticks, net_of}
 use Rattle.bs_times.specs.Outcomes.{outcome_of}
 use Rattle.bs_times.specs.Times.{IsConsistent}
+use Rattle.bs_top.specs.declared.stop.Ending.TheVariants.{Run, Spent}
 use Rattle.bs_top.specs.declared.stop.Stop.TheVariants.{Refused}
-use Rattle.bs_top.specs.Answer.{IsLogFault, IsPrediction, contents, fits, log_in, log_limit, log_named, predicted, reported, timed_on}
-use Rattle.bs_top.specs.Step.{Said}
+use Rattle.bs_top.specs.Answer.{AreWavesOn, IsEnough, IsLogFault, IsNetOn, IsPrediction, IsTooFew, contents, fits, foretold, journal_in, journaled, journaled_on, log_in, log_limit, log_named, most_waves, no_ticks, predicted, reported, timed_on, trace_on, traced, within}
+use Rattle.bs_top.specs.Place.{errors, output}
+use Rattle.bs_top.specs.Step.{Said, and_then}
 use Rattle.bs_top.proofs.OneMachine.{one_machine}
 use Rattle.bs_top.proofs.OneStep.{IsOne, one_after}
 
@@ -29,7 +45,28 @@ pub record LogLaws : Type 0 where
   pub none : (log : Log) (line : ℕ) (rule : LogRule) → IsValid log → IsFault (log_text log) line rule → ⊥
   pub small : (log : Log) → IsValid log → length (log_text log) < 67108864
   pub timely : (f : Fitted) → IsTimely (machine_of f)
+  pub causal : (log : Log) (machine : Machine) → IsValid log → IsTimely machine → Causal (net_of log machine)
+  pub run_causal : (p : Program) (limit : ℕ) (m : Machine) (hs : List History) → IsTimely m → IsVerdict p limit (clean hs) → Causal (net_of (log_of hs (length p.entries)) m)
+  pub table : (net : Net) → Causal net → (s z : Starts) → IsConsistent net s → IsConsistent net z → (i : ℕ) → HasRow net i → s i ≡ z i
+  pub spent : (net : Net) → Causal net → (estimates : Ticks) (most : ℕ) (s z : BudgetSpent) → IsSpent net estimates most s → IsSpent net estimates most z → s ≡ z
+  pub either : (net : Net) → Causal net → (estimates : Ticks) (most : ℕ) (s : BudgetSpent) → IsSpent net estimates most s → StillAt net estimates most → ⊥
+  pub noting : (net : Net) → Causal net → (estimates : Ticks) (most : ℕ) (a b : List (List Correction)) (p q : Bool) → AreNoted net estimates most a p → AreNoted net estimates most b q → (a ≡ b) × (p ≡ q)
   pub outcome : (log : Log) (machine : Machine) → IsValid log → IsTimely machine → (s z : Starts) → IsConsistent (net_of log machine) s → IsConsistent (net_of log machine) z → outcome_of log machine s ≡ outcome_of log machine z
+
+true_or_false : {A : Type 0} → true ≡ false → A
+true_or_false e = absurd (cc)
+
+-- a spent budget and a trace, as they are told
+abbrev spent_said : List ℕ → List (List Correction) → BudgetSpent → Said
+spent_said into lists spent = record { ending = Spent; note = Some (journal_in into lists false); place = errors; text = fault_text (fault.BudgetSpent spent) }
+
+abbrev traced_said : Log → Machine → List ℕ → Said
+traced_said kept machine starts = record { ending = Run (log.end_of kept); note = None; place = output; text = trace_text kept machine starts }
+
+-- tables that agree at each row start them alike
+starts_same : (s z : Starts) (k : ℕ) (rows : List Row) → ((i : ℕ) → k ≤ i → i < k + length rows → s i ≡ z i) → starts_from s k rows ≡ starts_from z k rows
+starts_same s z k [] same = refl
+starts_same s z k (r ∷ rs) same = ap₂ (λ x xs. x ∷ xs) (same k (omega arith) (omega arith)) (starts_same s z (k + 1) rs (λ i low high. same i (omega (arith, low)) (omega (arith, high))))
 
 module _ (laws : LogLaws) where
   -- a text that has a fault is no valid log's
@@ -53,21 +90,95 @@ module _ (laws : LogLaws) where
   unfolding log_named
   one_log files name one = one_after (contents log_limit files name) (λ text. log_in text) one one_text
 
+  -- Waves: of a log whose causes come before what they cause.
+  module _ (kept : Log) (causal : (machine : Machine) → IsTimely machine → Causal (net_of kept machine)) (m : MachineOf) where
+    one_net : (a b : Net) → IsNetOn kept m a → IsNetOn kept m b → a ≡ b
+    one_net a b h k = h.is_net ∙ ap (λ m. net_of kept m) (one_machine h.fitted k.fitted (h.is_machine ∙ sym k.is_machine) (h.is_fitted ∙ sym k.is_fitted)) ∙ sym k.is_net
+
+    causal_on : (net : Net) → IsNetOn kept m net → Causal net
+    causal_on net h = subst Causal (sym h.is_net) (causal (machine_of h.fitted) (laws.timely h.fitted))
+
+    pub same_spent : (most : ℕ) (s z : BudgetSpent) → IsTooFew kept m most s → IsTooFew kept m most z → s ≡ z
+    same_spent most s z h k = laws.spent h.0 (causal_on h.0 h.1) no_ticks most s z h.2 (subst (λ net. IsSpent net no_ticks most z) (one_net k.0 h.0 k.1 h.1) k.2)
+
+    not_enough : (most : ℕ) (s : BudgetSpent) → IsTooFew kept m most s → IsEnough kept m most → ⊥
+    not_enough most s h k = laws.either h.0 (causal_on h.0 h.1) no_ticks most s h.2 (subst (λ net. StillAt net no_ticks most) (one_net k.0 h.0 k.1 h.1) k.2)
+
+    pub one_within : (waves : Option ℕ) → IsOne (within waves kept m)
+    unfolding within
+    one_within None r s h k = sym h ∙ k
+    one_within (Some most) (Ok a) (Ok b) h k = refl
+    one_within (Some most) (Ok a) (Err s) h k = absurd (not_enough most k.0 k.1 h)
+    one_within (Some most) (Err r) (Ok b) h k = absurd (not_enough most h.0 h.1 k)
+    one_within (Some most) (Err r) (Err s) h k = ap (λ t. Err t) (h.2 ∙ ap (λ f. Refused (fault.BudgetSpent f)) (same_spent most h.0 k.0 h.1 k.1) ∙ sym k.2)
+
+    pub same_waves : (waves : Option ℕ) (a b : List (List Correction)) (p q : Bool) → AreWavesOn waves kept m a p → AreWavesOn waves kept m b q → (a ≡ b) × (p ≡ q)
+    same_waves waves a b p q h k = laws.noting h.0 (causal_on h.0 h.1) no_ticks (most_waves waves kept) a b p q h.2 (subst (λ net. AreNoted net no_ticks (most_waves waves kept) b q) (one_net k.0 h.0 k.1 h.1) k.2)
+
   module _ (kept : Log) (valid : IsValid kept) (m : MachineOf) where
+    comes_before : (machine : Machine) → IsTimely machine → Causal (net_of kept machine)
+    comes_before machine timely = laws.causal kept machine valid timely
+
     same_prediction : (a b : Said) (h : IsPrediction kept m a) (k : IsPrediction kept m b) → outcome_of kept (machine_of h.fitted) h.starts ≡ outcome_of kept (machine_of k.fitted) k.starts
     same_prediction a b h k =
         let machine = one_machine k.fitted h.fitted (k.is_machine ∙ sym h.is_machine) (k.is_fitted ∙ sym h.is_fitted) in
         let table = subst (λ m. IsConsistent (net_of kept m) k.starts) machine k.is_consistent in
         laws.outcome kept (machine_of h.fitted) valid (laws.timely h.fitted) h.starts k.starts h.is_consistent table ∙ ap (λ m. outcome_of kept m k.starts) (sym machine)
 
+    pub same_said : (a b : Said) → IsPrediction kept m a → IsPrediction kept m b → a ≡ b
+    same_said a b h k = h.is_said ∙ ap reported (same_prediction a b h k) ∙ sym k.is_said
+
     one_timed : IsOne (timed_on kept m)
-    one_timed (Ok a) (Ok b) h k = ap (λ s. Ok s) (h.is_said ∙ ap reported (same_prediction a b h k) ∙ sym k.is_said)
+    one_timed (Ok a) (Ok b) h k = ap (λ s. Ok s) (same_said a b h k)
     one_timed (Ok a) (Err s) h k = absurd k
     one_timed (Err r) s h k = absurd h
 
-    pub one_predicted : IsOne (fits kept.chares m) → IsOne (predicted kept m)
-    unfolding predicted
-    one_predicted one = one_after (fits kept.chares m) (λ _. timed_on kept m) one (λ _. one_timed)
+    one_journal : (waves : Option ℕ) (into : List ℕ) (a b : Said) → journaled_on waves into kept m (Ok a) → journaled_on waves into kept m (Ok b) → a ≡ b
+    one_journal waves into a b (inl h) (inl k) =
+        let lists = (same_waves kept comes_before m waves h.lists k.lists true true h.are_waves k.are_waves).0 in
+        let report = same_said h.report k.report h.is_report k.is_report in
+        h.is_said ∙ (λ i. record (report i) { note = Some (journal_in into (lists i) true) }) ∙ sym k.is_said
+    one_journal waves into a b (inl h) (inr k) = true_or_false (same_waves kept comes_before m waves h.lists k.lists true false h.are_waves k.are_waves).1
+    one_journal waves into a b (inr h) (inl k) = true_or_false (sym (same_waves kept comes_before m waves h.lists k.lists false true h.are_waves k.are_waves).1)
+    one_journal waves into a b (inr h) (inr k) =
+        let lists = (same_waves kept comes_before m waves h.lists k.lists false false h.are_waves k.are_waves).0 in
+        let spent = same_spent kept comes_before m (most_waves waves kept) h.spent k.spent h.is_spent k.is_spent in
+        h.is_said ∙ (λ i. spent_said into (lists i) (spent i)) ∙ sym k.is_said
+
+    one_journaled : (waves : Option ℕ) (into : List ℕ) → IsOne (journaled_on waves into kept m)
+    one_journaled waves into (Ok a) (Ok b) h k = ap (λ s. Ok s) (one_journal waves into a b h k)
+    one_journaled waves into (Ok a) (Err s) h k = absurd k
+    one_journaled waves into (Err r) s h k = absurd h
+
+    same_starts : (machine : Machine) → IsTimely machine → (s z : Starts) → IsConsistent (net_of kept machine) s → IsConsistent (net_of kept machine) z → starts_from s 1 kept.rows ≡ starts_from z 1 kept.rows
+    same_starts machine timely s z h k = starts_same s z 1 kept.rows (λ i low high. laws.table (net_of kept machine) (comes_before machine timely) s z h k i (low, omega (arith, high)))
+
+    one_trace : IsOne (trace_on kept m)
+    one_trace (Ok a) (Ok b) h k =
+        let machine = one_machine k.fitted h.fitted (k.is_machine ∙ sym h.is_machine) (k.is_fitted ∙ sym h.is_fitted) in
+        let table = subst (λ m. IsConsistent (net_of kept m) k.starts) machine k.is_consistent in
+        let starts = same_starts (machine_of h.fitted) (laws.timely h.fitted) h.starts k.starts h.is_consistent table in
+        ap (λ s. Ok s) (h.is_said ∙ (λ i. traced_said kept ((sym machine) i) (starts i)) ∙ sym k.is_said)
+    one_trace (Ok a) (Err s) h k = absurd k
+    one_trace (Err r) s h k = absurd h
+
+    module _ (one : IsOne (fits kept.chares m)) where
+      one_predicted : (waves : Option ℕ) → IsOne (predicted waves kept m)
+      unfolding predicted
+      one_predicted waves = one_after (fits kept.chares m) (λ _. and_then (within waves kept m) (λ _. timed_on kept m)) one
+          (λ _. one_after (within waves kept m) (λ _. timed_on kept m) (one_within kept comes_before m waves) (λ _. one_timed))
+
+      one_with_journal : (waves : Option ℕ) (into : List ℕ) → IsOne (journaled waves into kept m)
+      unfolding journaled
+      one_with_journal waves into = one_after (fits kept.chares m) (λ _. journaled_on waves into kept m) one (λ _. one_journaled waves into)
+
+      pub one_foretold : (waves : Option ℕ) (journal : Option (List ℕ)) → IsOne (foretold waves journal kept m)
+      one_foretold waves None = one_predicted waves
+      one_foretold waves (Some into) = one_with_journal waves into
+
+      pub one_traced : IsOne (traced kept m)
+      unfolding traced
+      one_traced = one_after (fits kept.chares m) (λ _. trace_on kept m) one (λ _. one_trace)
 
 -- the log of a file is valid
 pub valid_log : (files : Files) (name : List ℕ) (kept : Log) → log_named files name (Ok kept) → IsValid kept

@@ -4,8 +4,6 @@ use Rattle.bs_desk.specs.Outside.{Files}
 use Rattle.std.specs.Prelude.{IfOk}
 use Rattle.bs_check.specs.declared.accepted.Accepted.{Accepted}
 use Rattle.bs_log.specs.declared.log.Log.{Log}
-use Rattle.bs_log.specs.declared.outcome.End.TheVariants as end
-use Rattle.bs_print.specs.Canonical.{text_of}
 use Rattle.bs_machine.specs.Machine.{MachineOf, machine_view}
 use Rattle.bs_words.specs.declared.command.Command.{Command}
 use Rattle.bs_words.specs.declared.fault.WordsFault.{WordsFault}
@@ -15,13 +13,12 @@ use Rattle.std.specs.Option.{option_and_then, option_map}
 use Rattle.bs_top.specs.declared.stop.Reply.{Reply}
 use Rattle.bs_top.specs.declared.stop.Stop.{Stop}
 use Rattle.bs_top.specs.declared.stop.Stop.TheVariants.{Refused, NoFile, ReadFault, Memory}
-use Rattle.bs_top.specs.Answer.{accepted, checked, contents, file_limit, kept_in, logged, machine_named, program_in, reply_to, simulated}
+use Rattle.bs_top.specs.Answer.{accepted, checked, contents, file_limit, kept_in, logged, machine_named, printed, program_in, ran, reply_to, simulated}
 use Rattle.bs_top.specs.declared.asked.Asked.{Asked as AskedFor}
-use Rattle.bs_top.specs.Place.{output}
 use Rattle.bs_top.specs.Seen.{asked_of, said_of}
-use Rattle.bs_top.specs.Step.{Said, Told, and_then, gives}
+use Rattle.bs_top.specs.Step.{Said, Step, Told, and_then, gives}
 use Rattle.bs_top.specs.Stops.{stop_for_words}
-use Rattle.bs_top.specs.Words.{Asked, check, model, emulate, run, predict, MachineWord, built}
+use Rattle.bs_top.specs.Words.{Asked, check, model, emulate, run, predict, trace, MachineWord, built}
 use Rattle.bs_tree.specs.declared.tree.Program.{Program}
 use Rattle.bs_top.proofs.Machines.{items}
 use Rattle.bs_top.proofs.Simulating.{itself, this_log}
@@ -38,8 +35,13 @@ abbrev pub AsksFor : List ℕ → Asked → Type 0
 AsksFor name (check n) = name ≡ n
 AsksFor name (model n word limit) = name ≡ n
 AsksFor name (emulate n into limit) = name ≡ n
-AsksFor name (run n word limit) = name ≡ n
-AsksFor name (predict n word) = ⊥
+AsksFor name (run n word limit waves) = name ≡ n
+AsksFor name (predict n word waves journal) = ⊥
+AsksFor name (trace n word) = ⊥
+
+-- the program of a file and the machine of a word, and what comes of both
+abbrev pub on_both : Files → List ℕ → MachineWord → (Program → MachineOf → Step Said) → Step Said
+on_both files name word next = and_then (accepted files name) (λ p. and_then (machine_named files word) (λ m. next p m))
 
 module _ (files : Files) (name : List ℕ) where
   pub no_text : (stop : Stop) → Told items (contents file_limit files name) (Err stop) → Told program_of (accepted files name) (Err stop)
@@ -68,17 +70,18 @@ module _ (files : Files) (name : List ℕ) where
   pub not_accepted : (q : Asked) (stop : Stop) → AsksFor name q → Told program_of (accepted files name) (Err stop) → Told said_of (reply_to files (Some q)) (Err stop)
   unfolding reply_to
   not_accepted (check n) stop is h = subst (λ k. Told said_of (reply_to files (Some (check k))) (Err stop)) is
-      (stops program_of said_of (accepted files name) (λ p. gives (Ok (record { end = end.Settled; place = output; text = text_of p }))) stop h)
+      (stops program_of said_of (accepted files name) (λ p. gives (Ok (printed p))) stop h)
   not_accepted (model n word limit) stop is h = subst (λ k. Told said_of (reply_to files (Some (model k word limit))) (Err stop)) is
       (stops program_of said_of (accepted files name) (λ p. and_then (machine_named files word) (λ m. simulated p m limit)) stop h)
   not_accepted (emulate n into limit) stop is h = subst (λ k. Told said_of (reply_to files (Some (emulate k into limit))) (Err stop)) is
       (stops program_of said_of (accepted files name) (λ p. and_then (logged p limit) (λ kept. gives (Ok (kept_in into kept)))) stop h)
-  not_accepted (run n word limit) stop is h = subst (λ k. Told said_of (reply_to files (Some (run k word limit))) (Err stop)) is
-      (stops program_of said_of (accepted files name) (λ p. and_then (machine_named files word) (λ m. simulated p m limit)) stop h)
-  not_accepted (predict n word) stop is h = absurd is
+  not_accepted (run n word limit waves) stop is h = subst (λ k. Told said_of (reply_to files (Some (run k word limit waves))) (Err stop)) is
+      (stops program_of said_of (accepted files name) (λ p. and_then (machine_named files word) (λ m. ran waves p m limit)) stop h)
+  not_accepted (predict n word waves journal) stop is h = absurd is
+  not_accepted (trace n word) stop is h = absurd is
 
   module _ (p : Program) (is_program : accepted files name (Ok p)) where
-    pub prints : (said : Said) → said ≡ record { end = end.Settled; place = output; text = text_of p } → reply_to files (Some (check name)) (Ok said)
+    pub prints : (said : Said) → said ≡ printed p → reply_to files (Some (check name)) (Ok said)
     unfolding reply_to
     prints said is = (p, is_program, ap (λ s. Ok s) (sym is))
 
@@ -93,16 +96,24 @@ module _ (files : Files) (name : List ℕ) where
       pub keeps_log : (kept : Log) (reply : Reply) → logged p limit (Ok kept) → said_of reply ≡ kept_in into kept → Told said_of (reply_to files (Some (emulate name into limit))) (Ok reply)
       keeps_log kept reply h is = on_log (Ok reply) (kept, h, ap (λ s. Ok s) (sym is))
 
-    module _ (word : MachineWord) (limit : ℕ) where
-      on_program : (r : Result Reply Stop) → Told said_of (and_then (machine_named files word) (λ m. simulated p m limit)) r → Told said_of (reply_to files (Some (model name word limit))) r
-      unfolding reply_to
-      on_program r h = goes_on said_of (accepted files name) (λ p. and_then (machine_named files word) (λ m. simulated p m limit)) p r is_program h
+    -- a program and a machine, and then what comes of them
+    module _ (word : MachineWord) (next : Program → MachineOf → Step Said) where
+      on_program : (r : Result Reply Stop) → Told said_of (and_then (machine_named files word) (λ m. next p m)) r → Told said_of (on_both files name word next) r
+      on_program r h = goes_on said_of (accepted files name) (λ p. and_then (machine_named files word) (λ m. next p m)) p r is_program h
 
-      pub no_machine : (stop : Stop) → Told machine_view (machine_named files word) (Err stop) → Told said_of (reply_to files (Some (model name word limit))) (Err stop)
-      no_machine stop h = on_program (Err stop) (stops machine_view said_of (machine_named files word) (λ m. simulated p m limit) stop h)
+      pub no_machine : (stop : Stop) → Told machine_view (machine_named files word) (Err stop) → Told said_of (on_both files name word next) (Err stop)
+      no_machine stop h = on_program (Err stop) (stops machine_view said_of (machine_named files word) (λ m. next p m) stop h)
 
-      pub on_machine : (m : MachineOf) (r : Result Reply Stop) → machine_named files word (Ok m) → Told said_of (simulated p m limit) r → Told said_of (reply_to files (Some (model name word limit))) r
-      on_machine m r h k = on_program r (goes_on said_of (machine_named files word) (λ m. simulated p m limit) m r h k)
+      pub on_machine : (m : MachineOf) (r : Result Reply Stop) → machine_named files word (Ok m) → Told said_of (next p m) r → Told said_of (on_both files name word next) r
+      on_machine m r h k = on_program r (goes_on said_of (machine_named files word) (λ m. next p m) m r h k)
+
+  pub told_model : (word : MachineWord) (limit : ℕ) (r : Result Reply Stop) → Told said_of (on_both files name word (λ p m. simulated p m limit)) r → Told said_of (reply_to files (Some (model name word limit))) r
+  unfolding reply_to
+  told_model word limit r h = h
+
+  pub told_run : (word : MachineWord) (limit : ℕ) (waves : Option ℕ) (r : Result Reply Stop) → Told said_of (on_both files name word (λ p m. ran waves p m limit)) r → Told said_of (reply_to files (Some (run name word limit waves))) r
+  unfolding reply_to
+  told_run word limit waves r h = h
 
 pub no_words : (files : Files) → Told said_of (reply_to files None) (Err (Refused fault.BadWords))
 unfolding reply_to

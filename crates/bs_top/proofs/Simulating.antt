@@ -117,7 +117,7 @@ module _ (p : Program) (limit : ℕ) where
   never_clean_at never n clean = never (round p limit n) (rounds.is_clean n clean)
 
   -- where a program isn't run, it has no log
-  no_log : (stop : Stop) → judged p limit (Err stop) → logged p limit (Err stop)
+  pub no_log : (stop : Stop) → judged p limit (Err stop) → logged p limit (Err stop)
   unfolding judged logged
   no_log stop h = by h.0 h.1 h.2
     where
@@ -149,6 +149,36 @@ module _ (p : Program) (limit : ℕ) where
       by (rounds.clean hs) is e = (hs, is, same_log (log_of hs (length p.entries)) log e)
       by (rounds.twice t) is e = absurd (cc)
       by rounds.too_long is e = absurd (cc)
+
+  -- a program that has a log is run
+  pub judged_by_log : (log : Log) → logged p limit (Ok log) → judged p limit (Ok tt)
+  unfolding judged
+  judged_by_log log h = let is = histories_of log h in (rounds.clean is.0, is.1, refl)
+
+  -- and one that is run has a log
+  pub log_by_judged : judged p limit (Ok tt) → (log : Log) × logged p limit (Ok log)
+  unfolding judged logged
+  log_by_judged h = by h.0 h.1 h.2
+    where
+      by : (v : rounds.Verdict) → rounds.IsVerdict p limit v → if_clean limit v ≡ Ok tt
+          → (log : Log) × ((w : rounds.Verdict) × rounds.IsVerdict p limit w × (log_if_clean limit (length p.entries) w ≡ Ok log))
+      by (rounds.clean hs) is e = (log_of hs (length p.entries), (rounds.clean hs, is, refl))
+      by (rounds.twice t) is e = absurd (cc)
+      by rounds.too_long is e = absurd (cc)
+
+  -- one that has no log isn't run
+  pub not_judged : (stop : Stop) → logged p limit (Err stop) → judged p limit (Err stop)
+  unfolding judged logged
+  not_judged stop h = by h.0 h.1 h.2
+    where
+      same : (s : Stop) → no_log_for s ≡ no_log_for stop → stopped s ≡ stopped stop
+      same s e = cc
+
+      by : (v : rounds.Verdict) → rounds.IsVerdict p limit v → log_if_clean limit (length p.entries) v ≡ Err stop
+          → (w : rounds.Verdict) × rounds.IsVerdict p limit w × (if_clean limit w ≡ Err stop)
+      by (rounds.clean hs) is e = absurd (cc)
+      by (rounds.twice t) is e = (rounds.twice t, is, same (Refused (fault.Ambiguous (twice_told t))) e)
+      by rounds.too_long is e = (rounds.too_long, is, same (Refused (fault.TooLong limit)) e)
 
 module _ (p : Program) (m : MachineOf) (limit : ℕ) where
   pub unfit : (stop : Stop) → Told (λ (f : Fitted). tt) (fits p.chares m) (Err stop) → Told said_of (simulated p m limit) (Err stop)

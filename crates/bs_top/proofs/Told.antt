@@ -1,22 +1,23 @@
 -- What was written is the answer that its definition gives.
-use Rattle.std.proofs.Common.{◌≡◌, ◌≤◌, ℕ, List, length, take, refl, sym, ap, ◌∙◌, subst, inl, inr, Option, Result, Ok, Err}
-use Rattle.std.specs.Prelude.{◌⊎◌, IsTrue}
-use Rattle.bs_desk.specs.Outside.{Outside, Files, IsReading, Rose}
-use Rattle.bs_log.specs.declared.outcome.End.{End}
+use Rattle.std.proofs.Common.{◌≡◌, ℕ, List, take, refl, sym, ap, ◌∙◌, subst, inl, inr, Option, Some, None, Result, Ok, Err}
+use Rattle.bs_desk.specs.declared.desk.DeskFault.{DeskFault}
+use Rattle.bs_desk.specs.declared.desk.DeskFault.TheVariants as desk
+use Rattle.bs_desk.specs.Outside.{Outside, Files, IsReading}
 use Rattle.bs_log.specs.declared.outcome.End.TheVariants as end
 use Rattle.bs_report.specs.declared.faults.Fault.{Fault}
 use Rattle.bs_report.specs.declared.faults.Fault.TheVariants as fault
 use Rattle.bs_top.specs.declared.status.Status.{Status}
 use Rattle.bs_top.specs.declared.status.Status.TheVariants as status
+use Rattle.bs_top.specs.declared.stop.Ending.{Ending}
+use Rattle.bs_top.specs.declared.stop.Ending.TheVariants as ending
 use Rattle.bs_top.specs.declared.stop.Stop.{Stop}
 use Rattle.bs_top.specs.declared.stop.Stop.TheVariants as stop
 use Rattle.bs_top.specs.Words.{Asked}
 use Rattle.bs_top.specs.Step.{Said}
 use Rattle.bs_top.specs.Answer.{Answer, IsAnswer, answer_of, refused, refused_by, reply_to, status_of}
-use Rattle.bs_top.specs.Performs.{Answers, IsNotMade, Keeps, PutsFront, Refuses, Tells, WritesAnswer, WritesFront}
-use Rattle.bs_top.specs.Place.{Place, output, errors, in_file, put}
-use Rattle.bs_top.proofs.Kept.{kept_put, kept_reading, kept_refused, kept_silent}
-use Rattle.bs_top.proofs.Saved.{saved}
+use Rattle.bs_top.specs.Performs.{Answers, AreCut, IsBut, IsCut, IsCutNote, Keeps, Puts, Refuses, Tells, WritesAnswer, written_status}
+use Rattle.bs_top.specs.Place.{Note, Place, output, errors, in_file, noted, put}
+use Rattle.bs_top.proofs.Kept.{kept_put, kept_reading, kept_refused, kept_silent, reading_noted}
 
 -- a status that comes with an answer's whole text
 abbrev IsWholeStatus : Status → Type 0
@@ -25,36 +26,28 @@ IsWholeStatus status.WriteFault = ⊥
 IsWholeStatus status.Memory = ⊥
 IsWholeStatus _ = Unit {0}
 
--- the whole text is at its place, or a front of it and the desk refused, or its file wasn't made
-abbrev Comes : Outside → Outside → List ℕ → Status → Status → Place → Type 0
-Comes old new text wanted s place =
-    ((s ≡ wanted) × Keeps (put place text old) new)
-    ⊎ (((s ≡ status.Memory) ⊎ (s ≡ status.WriteFault)) × (PutsFront place text old new ⊎ IsNotMade place old new))
-
-causes : (mid new : Outside) (s : Status) → (s ≡ status.Memory) ⊎ ((s ≡ status.WriteFault) × IsTrue mid.can_fail × Rose mid.write_faults new.write_faults) → (s ≡ status.Memory) ⊎ (s ≡ status.WriteFault)
-causes mid new s (inl m) = inl m
-causes mid new s (inr w) = inr w.0
-
 -- an equation of a whole outside holds also with its own count
-counted : (new o : Outside) → new ≡ o → new ≡ record o { write_faults = new.write_faults }
+counted : (new o : Outside) → new ≡ o → IsBut o new
 counted new o e = e ∙ λ i. record o { write_faults = (sym (ap (λ (o : Outside). o.write_faults) e)) i }
 
-module _ (old mid new : Outside) (r : IsReading old mid) (text : List ℕ) (wanted s : Status) where
-  whole_at : (place : Place) → s ≡ wanted → new ≡ put place text mid → Comes old new text wanted s place
-  whole_at place is e = inl (is, kept_put place text old mid new r (counted new (put place text mid) e))
+module _ (old mid new : Outside) (r : IsReading old mid) where
+  cut : (place : Place) (text : List ℕ) → IsCut IsBut place text mid new → IsCut Keeps place text old new
+  cut place text (inl front) = inl (record { count = front.count; within = front.within; is_put = kept_put place (take front.count text) old mid new r front.is_put })
+  cut (in_file name) text (inr same) = inr (kept_refused old mid new r same)
+  cut output text (inr none) = absurd none
+  cut errors text (inr none) = absurd none
 
-  front_at : (place : Place) (count : ℕ) → count ≤ length text → new ≡ record (put place (take count text) mid) { write_faults = new.write_faults } → (s ≡ status.Memory) ⊎ (s ≡ status.WriteFault) → Comes old new text wanted s place
-  front_at place count within same why = inr (why, inl (record { count = count; within = within; kept = kept_put place (take count text) old mid new r same }))
+  cut_note : (note : Option Note) → IsCutNote IsBut note mid new → IsCutNote Keeps note old new
+  cut_note None h = absurd h
+  cut_note (Some note) h = cut (in_file note.name) note.text h
 
-  comes : (place : Place) → Tells place text wanted mid new s → Comes old new text wanted s place
-  comes output (inl w) = whole_at output w.0 w.1
-  comes output (inr cut) = front_at output cut.count cut.within cut.same (causes mid new s cut.cause)
-  comes errors (inl w) = whole_at errors w.0 w.1
-  comes errors (inr cut) = front_at errors cut.count cut.within cut.same (causes mid new s cut.cause)
-  comes (in_file name) (inl unmade) = inr (causes mid new s unmade.cause, inr (kept_refused old mid new r unmade.same))
-  comes (in_file name) (inr (inl w)) = whole_at (in_file name) w.0 (w.1 ∙ saved name text mid)
-  comes (in_file name) (inr (inr cut)) = front_at (in_file name) cut.count cut.within
-      (cut.same ∙ ap (λ (o : Outside). record o { write_faults = new.write_faults }) (saved name (take cut.count text) mid)) (causes mid new s cut.cause)
+module _ (old mid new : Outside) (r : IsReading old mid) (note : Option Note) (place : Place) (text : List ℕ) where
+  are_cut : AreCut IsBut note place text mid new → AreCut Keeps note place text old new
+  are_cut (inl h) = inl (cut_note old mid new r note h)
+  are_cut (inr h) = inr (cut (noted note old) (noted note mid) new (reading_noted note old mid r) place text h)
+
+  whole : new ≡ put place text (noted note mid) → Keeps (put place text (noted note old)) new
+  whole e = kept_put place text (noted note old) (noted note mid) new (reading_noted note old mid r) (counted new (put place text (noted note mid)) e)
 
 module _ (files : Files) (asked : Option Asked) (old new : Outside) where
   whole_status : (s : Status) → IsWholeStatus s → (a : Answer) → IsAnswer files asked a → WritesAnswer a s old new → Answers files asked old new s
@@ -68,35 +61,37 @@ module _ (files : Files) (asked : Option Asked) (old new : Outside) where
   whole_status status.BadLog f a is w = (a, is, w)
   whole_status status.AmbiguousMatch f a is w = (a, is, w)
   whole_status status.TooLong f a is w = (a, is, w)
+  whole_status status.BudgetSpent f a is w = (a, is, w)
   whole_status status.TooBig f a is w = (a, is, w)
   whole_status status.ReadFault f a is w = absurd f
   whole_status status.WriteFault f a is w = absurd f
   whole_status status.NoFile f a is w = (a, is, w)
   whole_status status.Memory f a is w = absurd f
 
-  by_cause : (s : Status) (a : Answer) → IsAnswer files asked a → WritesFront a old new → (s ≡ status.Memory) ⊎ (s ≡ status.WriteFault) → Answers files asked old new s
-  by_cause s a is front (inl e) = subst (Answers files asked old new) (sym e) (inr (a, is, front))
-  by_cause s a is front (inr e) = subst (Answers files asked old new) (sym e) (a, is, front)
-
   wanting : (mid : Outside) (s : Status) → IsReading old mid → s ≡ status.Memory → new ≡ mid → Answers files asked old new s
   wanting mid s r e same = subst (Answers files asked old new) (sym e) (inl (kept_reading old new (subst (IsReading old) (sym same) r)))
 
-  -- an answer's text is told after reading
-  says : (mid : Outside) (s : Status) (a : Answer) → IsWholeStatus a.status → IsReading old mid → IsAnswer files asked a → Tells a.place a.text a.status mid new s → Answers files asked old new s
-  says mid s a final r is t = go (comes old mid new r a.text a.status s a.place t)
-    where
-      go : Comes old new a.text a.status s a.place → Answers files asked old new s
-      go (inl whole) = whole_status s (subst IsWholeStatus (sym whole.0) final) a is (record { status = whole.0; kept = whole.1 })
-      go (inr front) = by_cause s a is front.1 front.0
+  -- the texts of an answer are told after reading
+  says : (mid : Outside) (a : Answer) (written : Result (Unit {0}) DeskFault) → IsWholeStatus a.status → IsReading old mid → IsAnswer files asked a → Tells a.note a.place a.text mid new written
+      → Answers files asked old new (written_status a.status written)
+  says mid a (Ok _) final r is e = whole_status a.status final a is (record { status = refl; kept = whole old mid new r a.note a.place a.text e })
+  says mid a (Err desk.Failed) final r is h = (a, is, are_cut old mid new r a.note a.place a.text h.1)
+  says mid a (Err desk.Memory) final r is h = inr (a, is, are_cut old mid new r a.note a.place a.text h.1)
+
+  -- a text without a note
+  tells : (mid : Outside) (place : Place) (text : List ℕ) (written : Result (Unit {0}) DeskFault) → Puts place text mid new written → Tells None place text mid new written
+  tells mid place text (Ok _) e = e
+  tells mid place text (Err why) h = (h.0, inr h.1)
 
   refuses : (mid : Outside) (s : Status) (f : Fault) → IsWholeStatus (refused_by f) → IsReading old mid → IsAnswer files asked (refused f) → Refuses f mid new s → Answers files asked old new s
   refuses mid s f final r is (inl memory) = wanting mid s r memory.0 memory.1
-  refuses mid s f final r is (inr says') = says mid s (refused f) final r is says'
+  refuses mid s f final r is (inr told) = subst (Answers files asked old new) (sym told.2) (says mid (refused f) told.0 final r is (tells mid (refused f).place (refused f).text told.0 told.1))
 
-final_end : (e : End) → IsWholeStatus (status_of e)
-final_end end.Settled = tt
-final_end end.Deadlock = tt
-final_end end.Trapped = tt
+final_end : (e : Ending) → IsWholeStatus (status_of e)
+final_end (ending.Run end.Settled) = tt
+final_end (ending.Run end.Deadlock) = tt
+final_end (ending.Run end.Trapped) = tt
+final_end ending.Spent = tt
 
 final_fault : (f : Fault) → IsWholeStatus (refused_by f)
 final_fault fault.BadWords = tt
@@ -107,17 +102,18 @@ final_fault (fault.BadPlace length) = tt
 final_fault (fault.BadLog why) = tt
 final_fault (fault.Ambiguous twice) = tt
 final_fault (fault.TooLong limit) = tt
+final_fault (fault.BudgetSpent spent) = tt
 final_fault (fault.TooBig limit) = tt
 
 module _ (files : Files) (asked : Option Asked) where
   answers : (reply : Result Said Stop) → reply_to files asked reply → IsAnswer files asked (answer_of reply)
   answers reply is = record { reply = reply; is_reply = is; is_answer = refl }
 
-  pub said_reply : (old mid new : Outside) (s wanted : Status) (said : Said) (bytes : List ℕ) → IsReading old mid → reply_to files asked (Ok said) → wanted ≡ status_of said.end → bytes ≡ said.text
-      → Tells said.place bytes wanted mid new s → Answers files asked old new s
-  said_reply old mid new s wanted said bytes r is status_is bytes_are tells =
-      says files asked old new mid s (answer_of (Ok said)) (final_end said.end) r (answers (Ok said) is)
-      (subst (λ b. Tells said.place b (status_of said.end) mid new s) bytes_are (subst (λ w. Tells said.place bytes w mid new s) status_is tells))
+  pub said_reply : (old mid new : Outside) (said : Said) (written : Result (Unit {0}) DeskFault) (s wanted : Status) → IsReading old mid → reply_to files asked (Ok said)
+      → Tells said.note said.place said.text mid new written → wanted ≡ status_of said.ending → s ≡ written_status wanted written → Answers files asked old new s
+  said_reply old mid new said written s wanted r is tells status_is is_status =
+      subst (Answers files asked old new) (sym (is_status ∙ ap (λ w. written_status w written) status_is))
+      (says files asked old new mid (answer_of (Ok said)) written (final_end said.ending) r (answers (Ok said) is) tells)
 
   pub said_refusal : (old mid new : Outside) (s : Status) (f : Fault) → IsReading old mid → reply_to files asked (Err (stop.Refused f)) → Refuses f mid new s → Answers files asked old new s
   said_refusal old mid new s f r is refuses' = refuses files asked old new mid s f (final_fault f) r (answers (Err (stop.Refused f)) is) refuses'

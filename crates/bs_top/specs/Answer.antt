@@ -1,5 +1,5 @@
 -- What a command answers, by the contents of the files (docs/output.md).
-use Rattle.std.specs.Prelude.{◌≡◌, ℕ, nat_le, List, [], length, Option, Some, None, Result, Ok, Err, if◌then◌else◌}
+use Rattle.std.specs.Prelude.{◌≡◌, ◌+◌, ◌*◌, ◌⊎◌, ℕ, Bool, true, false, nat_le, List, [], length, Option, Some, None, Result, Ok, Err, if◌then◌else◌}
 use Rattle.std.specs.FinMap as map
 use Rattle.bs_desk.specs.Outside.{Files}
 use Rattle.bs_check.specs.Refusal.{IsRefused, refusal}
@@ -13,6 +13,7 @@ use Rattle.bs_logread.specs.declared.fault.LogFault.{LogFault}
 use Rattle.bs_logread.specs.declared.fault.LogFault.TheVariants as read
 use Rattle.bs_log.specs.declared.outcome.End.{End}
 use Rattle.bs_log.specs.declared.outcome.End.TheVariants as end
+use Rattle.bs_line.specs.declared.corrections.Correction.{Correction}
 use Rattle.bs_log.specs.declared.outcome.Outcome.{Outcome}
 use Rattle.bs_logtext.specs.Text.{log_text}
 use Rattle.bs_machine.specs.File.{machine_in}
@@ -20,9 +21,9 @@ use Rattle.bs_machine.specs.Machine.{MachineOf, flat_in, machine_view}
 use Rattle.bs_machine.specs.declared.fault.MachineFault.{MachineFault}
 use Rattle.bs_machine.specs.declared.fitted.Fitted.{Fitted}
 use Rattle.bs_times.specs.Machine.{machine_of}
-use Rattle.bs_times.specs.Net.{Starts, net_of}
+use Rattle.bs_times.specs.Net.{Net, Starts, Ticks, net_of, row_of}
 use Rattle.bs_times.specs.Outcomes.{outcome_of}
-use Rattle.bs_times.specs.Times.{IsConsistent}
+use Rattle.bs_times.specs.Times.{IsConsistent, greatest_to}
 use Rattle.bs_net.specs.Home.{has_length, homes_in}
 use Rattle.bs_parse.specs.Text.{IsFault, Spells}
 use Rattle.bs_parse.specs.declared.text.ParseFault.{ParseFault}
@@ -31,19 +32,27 @@ use Rattle.bs_report.specs.declared.faults.Fault.{Fault}
 use Rattle.bs_report.specs.declared.faults.Fault.TheVariants as fault
 use Rattle.bs_report.specs.End.{end_of}
 use Rattle.bs_report.specs.Fault.{fault_text}
+use Rattle.bs_report.specs.Journal.{journal_text}
 use Rattle.bs_report.specs.Report.{report_text}
+use Rattle.bs_report.specs.Trace.{trace_text}
 use Rattle.bs_rounds.specs.declared.answer.At.{At}
 use Rattle.bs_rounds.specs.declared.answer.Twice.{Twice}
 use Rattle.bs_semantics.specs.Serial.{IsSerial, timed}
 use Rattle.bs_semantics.specs.Verdict as rounds
+use Rattle.bs_settle.specs.Noted.{AreNoted}
+use Rattle.bs_settle.specs.Settled.{IsSpent, StillAt}
+use Rattle.bs_settle.specs.Timed.{starts_from}
+use Rattle.bs_settle.specs.declared.settling.BudgetSpent.{BudgetSpent}
 use Rattle.bs_tree.specs.declared.tree.Program.{Program}
 use Rattle.bs_top.specs.declared.status.Status.{Status}
 use Rattle.bs_top.specs.declared.status.Status.TheVariants as status
+use Rattle.bs_top.specs.declared.stop.Ending.{Ending}
+use Rattle.bs_top.specs.declared.stop.Ending.TheVariants.{Run, Spent}
 use Rattle.bs_top.specs.declared.stop.Stop.{Stop}
 use Rattle.bs_top.specs.declared.stop.Stop.TheVariants.{Refused, NoFile, ReadFault, Memory}
-use Rattle.bs_top.specs.Place.{Place, output, errors, in_file}
+use Rattle.bs_top.specs.Place.{Note, Place, output, errors, in_file}
 use Rattle.bs_top.specs.Step.{Step, Said, gives, ◌>>=◌}
-use Rattle.bs_top.specs.Words.{Asked, check, model, emulate, run, predict, MachineWord, flat, file}
+use Rattle.bs_top.specs.Words.{Asked, check, model, emulate, run, predict, trace, MachineWord, flat, file}
 
 -- the file of a program or a machine has at most this many bytes
 abbrev pub file_limit : ℕ
@@ -113,7 +122,11 @@ judged p limit result = (verdict : rounds.Verdict) × rounds.IsVerdict p limit v
 
 -- the report of an outcome, and how its run ended
 abbrev pub reported : Outcome → Said
-reported outcome = record { end = end_of outcome; place = output; text = report_text outcome }
+reported outcome = record { ending = Run (end_of outcome); note = None; place = output; text = report_text outcome }
+
+-- the canonical text of a program
+abbrev pub printed : Program → Said
+printed p = record { ending = Run end.Settled; note = None; place = output; text = text_of p }
 
 -- the report of an outcome that the serial machine model gives
 pub record IsReport (p : Program) (m : MachineOf) (limit : ℕ) (said : Said) : Type 0 where
@@ -147,7 +160,7 @@ logged p limit result = (verdict : rounds.Verdict) × rounds.IsVerdict p limit v
 
 -- the text of a log for the file of that name, and how the run of the log ends
 abbrev pub kept_in : List ℕ → Log → Said
-kept_in name kept = record { end = log.end_of kept; place = in_file name; text = log_text kept }
+kept_in name kept = record { ending = Run (log.end_of kept); note = None; place = in_file name; text = log_text kept }
 
 -- want of memory is no fault of a text
 abbrev pub IsLogFault : List ℕ → LogFault → Type 0
@@ -178,18 +191,126 @@ abbrev pub timed_on : Log → MachineOf → Step Said
 timed_on kept m (Ok said) = IsPrediction kept m said
 timed_on kept m (Err stop) = ⊥
 
--- what comes of a log on a machine
-unfoldable pub predicted : Log → MachineOf → Step Said
-predicted kept machine = do
+-- ---- waves
+
+-- all messages are thought to arrive at tick 0
+abbrev pub no_ticks : Ticks
+no_ticks m = 0
+
+-- so many waves are enough for a log on every machine: the number of rows times (the greatest depth + 1), and 2
+abbrev pub budget_of : Log → ℕ
+budget_of kept = length kept.rows * (greatest_to (λ i. (row_of kept i).depth) (length kept.rows) + 1) + 2
+
+-- the net of a log on a machine that was fitted to the log's chares
+pub record IsNetOn (kept : Log) (m : MachineOf) (net : Net) : Type 0 where
+  pub fitted : Fitted
+  pub is_machine : machine_view fitted.machine ≡ m
+  pub is_fitted : fitted.chares ≡ kept.chares
+  pub is_net : net ≡ net_of kept (machine_of fitted)
+
+-- so many waves settle the log on the machine: the last of them changes no tick
+abbrev pub IsEnough : Log → MachineOf → ℕ → Type 0
+IsEnough kept m most = (net : Net) × IsNetOn kept m net × StillAt net no_ticks most
+
+-- or the last of them still changes one
+abbrev pub IsTooFew : Log → MachineOf → ℕ → BudgetSpent → Type 0
+IsTooFew kept m most spent = (net : Net) × IsNetOn kept m net × IsSpent net no_ticks most spent
+
+-- a number of waves that is given is enough, or is spent
+unfoldable pub within : Option ℕ → Log → MachineOf → Step (Unit {0})
+within None kept m result = Ok tt ≡ result
+within (Some most) kept m (Ok _) = IsEnough kept m most
+within (Some most) kept m (Err stop) = (spent : BudgetSpent) × IsTooFew kept m most spent × (stop ≡ Refused (fault.BudgetSpent spent))
+
+-- what comes of a log on a machine, within so many waves
+unfoldable pub predicted : Option ℕ → Log → MachineOf → Step Said
+predicted waves kept machine = do
   _ ← fits kept.chares machine
+  _ ← within waves kept machine
   timed_on kept machine
 
--- what comes of a command; so it is that words which are none come to a refusal. `run` comes to what `model` comes to
+-- what comes of a program by its log on a machine, within so many waves: the report is that of the serial machine model
+unfoldable pub ran : Option ℕ → Program → MachineOf → ℕ → Step Said
+ran waves program machine limit = do
+  _ ← fits program.chares machine
+  kept ← logged program limit
+  _ ← within waves kept machine
+  serial_run program machine limit
+
+-- ---- journals
+
+-- the greatest number of waves: the given one, or one that is enough
+abbrev pub most_waves : Option ℕ → Log → ℕ
+most_waves None kept = budget_of kept
+most_waves (Some most) kept = most
+
+-- what each wave of a log on a machine changes, where they settle (true), or where the last one still changes a tick (false)
+abbrev pub AreWavesOn : Option ℕ → Log → MachineOf → List (List Correction) → Bool → Type 0
+AreWavesOn waves kept m lists settled = (net : Net) × IsNetOn kept m net × AreNoted net no_ticks (most_waves waves kept) lists settled
+
+-- the journal of waves for the file of that name
+abbrev pub journal_in : List ℕ → List (List Correction) → Bool → Note
+journal_in name lists settled = record { name = name; text = journal_text lists settled }
+
+-- the journal, and then the report
+pub record IsJournal (waves : Option ℕ) (into : List ℕ) (kept : Log) (m : MachineOf) (said : Said) : Type 0 where
+  pub lists : List (List Correction)
+  pub are_waves : AreWavesOn waves kept m lists true
+  pub report : Said
+  pub is_report : IsPrediction kept m report
+  pub is_said : said ≡ record report { note = Some (journal_in into lists true) }
+
+-- the journal of a spent budget, and then the line of the refusal
+pub record IsSpentJournal (waves : Option ℕ) (into : List ℕ) (kept : Log) (m : MachineOf) (said : Said) : Type 0 where
+  pub lists : List (List Correction)
+  pub are_waves : AreWavesOn waves kept m lists false
+  pub spent : BudgetSpent
+  pub is_spent : IsTooFew kept m (most_waves waves kept) spent
+  pub is_said : said ≡ record { ending = Spent; note = Some (journal_in into lists false); place = errors; text = fault_text (fault.BudgetSpent spent) }
+
+abbrev pub journaled_on : Option ℕ → List ℕ → Log → MachineOf → Step Said
+journaled_on waves into kept m (Ok said) = IsJournal waves into kept m said ⊎ IsSpentJournal waves into kept m said
+journaled_on waves into kept m (Err stop) = ⊥
+
+-- what comes of a log on a machine with a journal
+unfoldable pub journaled : Option ℕ → List ℕ → Log → MachineOf → Step Said
+journaled waves into kept machine = do
+  _ ← fits kept.chares machine
+  journaled_on waves into kept machine
+
+-- the same, with a journal where there is a name for its file
+abbrev pub foretold : Option ℕ → Option (List ℕ) → Log → MachineOf → Step Said
+foretold waves None = predicted waves
+foretold waves (Some into) = journaled waves into
+
+-- ---- traces
+
+-- the trace of a log on a machine at its one consistent table
+pub record IsTracing (kept : Log) (m : MachineOf) (said : Said) : Type 0 where
+  pub fitted : Fitted
+  pub starts : Starts
+  pub is_machine : machine_view fitted.machine ≡ m
+  pub is_fitted : fitted.chares ≡ kept.chares
+  pub is_consistent : IsConsistent (net_of kept (machine_of fitted)) starts
+  pub is_said : said ≡ record { ending = Run (log.end_of kept); note = None; place = output; text = trace_text kept (machine_of fitted) (starts_from starts 1 kept.rows) }
+
+abbrev pub trace_on : Log → MachineOf → Step Said
+trace_on kept m (Ok said) = IsTracing kept m said
+trace_on kept m (Err stop) = ⊥
+
+unfoldable pub traced : Log → MachineOf → Step Said
+traced kept machine = do
+  _ ← fits kept.chares machine
+  trace_on kept machine
+
+-- ---- commands
+
+-- what comes of a command; so it is that words which are none come to a refusal
 unfoldable pub reply_to : Files → Option Asked → Step Said
 reply_to files None = gives (Err (Refused fault.BadWords))
 reply_to files (Some (check name)) = do
   program ← accepted files name
-  gives (Ok (record { end = end.Settled; place = output; text = text_of program }))
+  gives (Ok (printed program))
 reply_to files (Some (model name word limit)) = do
   program ← accepted files name
   machine ← machine_named files word
@@ -198,21 +319,29 @@ reply_to files (Some (emulate name into limit)) = do
   program ← accepted files name
   kept ← logged program limit
   gives (Ok (kept_in into kept))
-reply_to files (Some (run name word limit)) = do
+reply_to files (Some (run name word limit waves)) = do
   program ← accepted files name
   machine ← machine_named files word
-  simulated program machine limit
-reply_to files (Some (predict name word)) = do
+  ran waves program machine limit
+reply_to files (Some (predict name word waves journal)) = do
   kept ← log_named files name
   machine ← machine_named files word
-  predicted kept machine
+  foretold waves journal kept machine
+reply_to files (Some (trace name word)) = do
+  kept ← log_named files name
+  machine ← machine_named files word
+  traced kept machine
 
 -- ---- what is written
 
-abbrev pub status_of : End → Status
-status_of end.Settled = status.Settled
-status_of end.Deadlock = status.Deadlock
-status_of end.Trapped = status.Trapped
+abbrev pub status_at : End → Status
+status_at end.Settled = status.Settled
+status_at end.Deadlock = status.Deadlock
+status_at end.Trapped = status.Trapped
+
+abbrev pub status_of : Ending → Status
+status_of (Run end) = status_at end
+status_of Spent = status.BudgetSpent
 
 -- the status of a refusal
 abbrev pub refused_by : Fault → Status
@@ -224,23 +353,25 @@ refused_by (fault.BadPlace length) = status.BadMachine
 refused_by (fault.BadLog why) = status.BadLog
 refused_by (fault.Ambiguous twice) = status.AmbiguousMatch
 refused_by (fault.TooLong limit) = status.TooLong
+refused_by (fault.BudgetSpent spent) = status.BudgetSpent
 refused_by (fault.TooBig limit) = status.TooBig
 
--- a status, and the one text that is written to its place
+-- a status, a text that is written to its place, and maybe a note that is written before it
 pub record Answer : Type 0 where
   pub status : Status
+  pub note : Option Note
   pub place : Place
   pub text : List ℕ
 
 abbrev pub refused : Fault → Answer
-refused why = record { status = refused_by why; place = errors; text = fault_text why }
+refused why = record { status = refused_by why; note = None; place = errors; text = fault_text why }
 
 abbrev pub silent : Status → Answer
-silent s = record { status = s; place = errors; text = [] }
+silent s = record { status = s; note = None; place = errors; text = [] }
 
 -- the text of a reply goes to its place, and the line of a refusal to standard error
 abbrev pub answer_of : Result Said Stop → Answer
-answer_of (Ok said) = record { status = status_of said.end; place = said.place; text = said.text }
+answer_of (Ok said) = record { status = status_of said.ending; note = said.note; place = said.place; text = said.text }
 answer_of (Err (Refused why)) = refused why
 answer_of (Err NoFile) = silent status.NoFile
 answer_of (Err ReadFault) = silent status.ReadFault

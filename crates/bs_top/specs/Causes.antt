@@ -6,11 +6,12 @@ use Rattle.bs_report.specs.declared.faults.Fault.TheVariants.{BadWords, TooBig}
 use Rattle.bs_top.specs.declared.stop.Stop.{Stop}
 use Rattle.bs_top.specs.declared.stop.Stop.TheVariants.{Refused, NoFile, ReadFault, Memory}
 use Rattle.bs_top.specs.Answer.{file_limit, log_limit}
-use Rattle.bs_top.specs.Words.{Asked, predict}
+use Rattle.bs_top.specs.Words.{Asked, predict, trace}
 
 -- the most bytes that a file of a command may have
 abbrev pub most_of : Option Asked → ℕ
-most_of (Some (predict name word)) = log_limit
+most_of (Some (predict name word waves journal)) = log_limit
+most_of (Some (trace name word)) = log_limit
 most_of _ = file_limit
 
 -- a limit of a file of a command whose files have at most so many bytes: that of programs and machines, or this one

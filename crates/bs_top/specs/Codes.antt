@@ -1,7 +1,7 @@
 -- The exit codes (docs/output.md).
 use Rattle.std.specs.Prelude.{ℕ}
 use Rattle.bs_top.specs.declared.status.Status.{Status}
-use Rattle.bs_top.specs.declared.status.Status.TheVariants.{Settled, Deadlock, Trapped, BadWords, BadProgram, CheckFailed, BadMachine, BadLog, AmbiguousMatch, TooLong, TooBig, ReadFault, WriteFault, NoFile, Memory}
+use Rattle.bs_top.specs.declared.status.Status.TheVariants.{Settled, Deadlock, Trapped, BadWords, BadProgram, CheckFailed, BadMachine, BadLog, AmbiguousMatch, TooLong, BudgetSpent, TooBig, ReadFault, WriteFault, NoFile, Memory}
 
 abbrev pub code_of : Status → ℕ
 code_of Settled = 0
@@ -14,6 +14,7 @@ code_of BadMachine = 13
 code_of BadLog = 14
 code_of AmbiguousMatch = 15
 code_of TooLong = 16
+code_of BudgetSpent = 17
 code_of TooBig = 18
 code_of ReadFault = 20
 code_of WriteFault = 21

@@ -1,5 +1,5 @@
 -- Files that hold all that a command needs, and what it then comes to.
-use Rattle.std.specs.Prelude.{◌≡◌, ◌≤◌, ◌⊎◌, ℕ, IsTrue, List, length, Some, None, Ok}
+use Rattle.std.specs.Prelude.{◌≡◌, ◌≤◌, ◌⊎◌, ℕ, IsTrue, List, length, Option, Some, None, Ok}
 use Rattle.std.specs.FinMap as map
 use Rattle.bs_desk.specs.Outside.{Outside, Files}
 use Rattle.bs_check.specs.Refusal.{refusal}
@@ -7,20 +7,17 @@ use Rattle.bs_log.specs.Collected.{log_of}
 use Rattle.bs_log.specs.Valid.{IsValid}
 use Rattle.bs_log.specs.declared.history.History.{History}
 use Rattle.bs_log.specs.declared.log.Log.{Log}
-use Rattle.bs_log.specs.declared.outcome.End.TheVariants.{Settled}
 use Rattle.bs_logtext.specs.Text.{log_text}
 use Rattle.bs_machine.specs.File.{machine_in}
 use Rattle.bs_machine.specs.Machine.{MachineOf, flat_in}
 use Rattle.bs_net.specs.Home.{has_length}
 use Rattle.bs_parse.specs.Text.{Spells}
-use Rattle.bs_print.specs.Canonical.{text_of}
 use Rattle.bs_semantics.specs.Verdict.{IsVerdict, clean}
 use Rattle.bs_tree.specs.declared.tree.Program.{Program}
 use Rattle.bs_top.specs.declared.status.Status.{Status}
 use Rattle.bs_top.specs.declared.status.Status.TheVariants as status
-use Rattle.bs_top.specs.Answer.{Answer, IsPrediction, IsReport, answer_of, file_limit, kept_in}
+use Rattle.bs_top.specs.Answer.{Answer, IsJournal, IsPrediction, IsReport, IsTracing, answer_of, budget_of, file_limit, kept_in}
 use Rattle.bs_top.specs.Performs.{WritesAnswer}
-use Rattle.bs_top.specs.Place.{output}
 use Rattle.bs_top.specs.Step.{Said}
 use Rattle.bs_top.specs.Words.{MachineWord, flat, file}
 
@@ -47,10 +44,6 @@ pub record CanRun (files : Files) (name : List ℕ) (word : MachineWord) (limit 
   pub machine : HasMachine files word m
   pub is_fitting : IsTrue (has_length m.place p.chares)
   pub is_clean : (histories : List History) × IsVerdict p limit (clean histories)
-
--- the canonical text of a program
-abbrev pub canonical : Program → Said
-canonical p = record { end = Settled; place = output; text = text_of p }
 
 -- the answer is a report of what the serial machine model gives
 abbrev pub IsReported : Program → MachineOf → ℕ → Answer → Type 0
@@ -85,6 +78,23 @@ pub record CanForetell (files : Files) (name : List ℕ) (word : MachineWord) (k
 -- the answer is the report of the log's outcome on the machine at the log's one consistent table
 abbrev pub IsPredicted : Log → MachineOf → Answer → Type 0
 IsPredicted kept m answer = (said : Said) × IsPrediction kept m said × (answer ≡ answer_of (Ok said))
+
+-- the answer is the journal of the waves, and behind it that report
+abbrev pub IsJournaled : Option ℕ → List ℕ → Log → MachineOf → Answer → Type 0
+IsJournaled waves into kept m answer = (said : Said) × IsJournal waves into kept m said × (answer ≡ answer_of (Ok said))
+
+-- the answer is the trace of the log on the machine at the log's one consistent table
+abbrev pub IsTraced : Log → MachineOf → Answer → Type 0
+IsTraced kept m answer = (said : Said) × IsTracing kept m said × (answer ≡ answer_of (Ok said))
+
+-- no number of waves is given, or one that is enough for the log on every machine
+abbrev pub IsAmple : Option ℕ → Log → Type 0
+IsAmple None kept = Unit {0}
+IsAmple (Some most) kept = budget_of kept ≤ most
+
+-- the same for the log of a program whose verdict at the limit is Clean
+abbrev pub IsAmpleFor : Option ℕ → Program → ℕ → Type 0
+IsAmpleFor waves p limit = (histories : List History) → IsVerdict p limit (clean histories) → IsAmple waves (log_of histories (length p.entries))
 
 -- statuses with which a text isn't written whole
 abbrev pub IsFailure : Status → Type 0

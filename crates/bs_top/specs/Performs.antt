@@ -1,46 +1,72 @@
 -- What performing a command does to the outside (docs/promises.md).
-use Rattle.std.specs.Prelude.{◌≡◌, ◌≤◌, ◌+◌, ◌⊎◌, ℕ, true, false, IsTrue, List, length, take, Option, None, IsSome}
-use Rattle.bs_desk.specs.declared.desk.Port.{Port}
-use Rattle.bs_desk.specs.declared.desk.Port.TheVariants as port
-use Rattle.bs_desk.specs.Outside.{Outside, Files, Rose, with_created, written}
+use Rattle.std.specs.Prelude.{◌≡◌, ◌≤◌, ◌+◌, ◌⊎◌, ℕ, true, false, IsTrue, List, length, take, Option, Some, None, IsSome, Result, Ok, Err}
+use Rattle.bs_desk.specs.declared.desk.DeskFault.{DeskFault}
+use Rattle.bs_desk.specs.declared.desk.DeskFault.TheVariants as desk
+use Rattle.bs_desk.specs.Outside.{Outside, Files, Rose}
 use Rattle.bs_report.specs.declared.faults.Fault.{Fault}
 use Rattle.bs_report.specs.Fault.{fault_text}
 use Rattle.bs_top.specs.declared.status.Status.{Status}
 use Rattle.bs_top.specs.declared.status.Status.TheVariants as status
 use Rattle.bs_top.specs.Words.{Asked}
-use Rattle.bs_top.specs.Place.{Place, output, errors, in_file, put}
+use Rattle.bs_top.specs.Place.{Note, Place, errors, in_file, noted, put}
 use Rattle.bs_top.specs.Answer.{Answer, IsAnswer, refused_by}
 use Rattle.bs_top.specs.Causes.{IsBound, most_of}
 
--- the text at a port: a front of n bytes was written, and then the desk refused
-pub record IsCutOff (port : Port) (text : List ℕ) (old new : Outside) (s : Status) : Type 0 where
-  pub count : ℕ
-  pub within : count ≤ length text
-  pub same : new ≡ record (written port (take count text) old) { write_faults = new.write_faults }
-  pub cause : (s ≡ status.Memory) ⊎ ((s ≡ status.WriteFault) × IsTrue old.can_fail × Rose old.write_faults new.write_faults)
+-- why a call that writes was refused: the desk can fail and its count of write faults rose, or memory was wanting
+abbrev pub WriteCause : DeskFault → Outside → Outside → Type 0
+WriteCause desk.Failed old new = IsTrue old.can_fail × Rose old.write_faults new.write_faults
+WriteCause desk.Memory old new = Unit {0}
 
--- the text is written, and the status is the one that was handed in; or a front of it
-abbrev pub Says : Port → List ℕ → Status → Outside → Outside → Status → Type 0
-Says port text wanted old new s = ((s ≡ wanted) × (new ≡ written port text old)) ⊎ IsCutOff port text old new s
+-- all is as it should be, but for the count of write faults
+abbrev pub IsBut : Outside → Outside → Type 0
+IsBut wanted new = new ≡ record wanted { write_faults = new.write_faults }
 
--- the same for the line of a refusal; or memory was wanting for the line
+-- A text was cut off. In all this `As wanted new` says how what is outside is as wanted.
+module _ (As : Outside → Outside → Type 0) where
+  -- a front of the text is at its place
+  pub record IsFront (place : Place) (text : List ℕ) (old new : Outside) : Type 0 where
+    pub count : ℕ
+    pub within : count ≤ length text
+    pub is_put : As (put place (take count text) old) new
+
+  -- the text is for a file, and that file wasn't made: all is as before
+  abbrev pub IsNotMade : Place → Outside → Outside → Type 0
+  IsNotMade (in_file name) old new = As old new
+  IsNotMade _ old new = ⊥
+
+  abbrev pub IsCut : Place → List ℕ → Outside → Outside → Type 0
+  IsCut place text old new = IsFront place text old new ⊎ IsNotMade place old new
+
+  -- a note was cut off
+  abbrev pub IsCutNote : Option Note → Outside → Outside → Type 0
+  IsCutNote None old new = ⊥
+  IsCutNote (Some note) old new = IsCut (in_file note.name) note.text old new
+
+  -- the note was cut off, or the text behind it
+  abbrev pub AreCut : Option Note → Place → List ℕ → Outside → Outside → Type 0
+  AreCut note place text old new = IsCutNote note old new ⊎ IsCut place text (noted note old) new
+
+-- the text is at its place, or a front of it and the desk refused the rest, or its file couldn't be made
+abbrev pub Puts : Place → List ℕ → Outside → Outside → Result (Unit {0}) DeskFault → Type 0
+Puts place text old new (Ok _) = new ≡ put place text old
+Puts place text old new (Err fault) = WriteCause fault old new × IsCut IsBut place text old new
+
+-- the same of a note and a text behind it
+abbrev pub Tells : Option Note → Place → List ℕ → Outside → Outside → Result (Unit {0}) DeskFault → Type 0
+Tells note place text old new (Ok _) = new ≡ put place text (noted note old)
+Tells note place text old new (Err fault) = WriteCause fault old new × AreCut IsBut note place text old new
+
+-- the status of texts that are written whole, or of what refused them
+abbrev pub written_status : Status → Result (Unit {0}) DeskFault → Status
+written_status wanted (Ok _) = wanted
+written_status wanted (Err desk.Failed) = status.WriteFault
+written_status wanted (Err desk.Memory) = status.Memory
+
+-- the line of a refusal is at its place, or a front of it; or memory was wanting for the line
 abbrev pub Refuses : Fault → Outside → Outside → Status → Type 0
-Refuses f old new s = ((s ≡ status.Memory) × (new ≡ old)) ⊎ Says port.Err (fault_text f) (refused_by f) old new s
-
--- the file couldn't be made, and all is as before
-pub record IsUnmade (old new : Outside) (s : Status) : Type 0 where
-  pub same : new ≡ record old { write_faults = new.write_faults }
-  pub cause : (s ≡ status.Memory) ⊎ ((s ≡ status.WriteFault) × IsTrue old.can_fail × Rose old.write_faults new.write_faults)
-
--- the file of that name was made and the text is said in it, or the file couldn't be made
-abbrev pub Saves : List ℕ → List ℕ → Status → Outside → Outside → Status → Type 0
-Saves name text wanted old new s = IsUnmade old new s ⊎ Says port.File text wanted (with_created name old) new s
-
--- the text of a reply is told at its place
-abbrev pub Tells : Place → List ℕ → Status → Outside → Outside → Status → Type 0
-Tells output text wanted old new s = Says port.Out text wanted old new s
-Tells errors text wanted old new s = Says port.Err text wanted old new s
-Tells (in_file name) text wanted old new s = Saves name text wanted old new s
+Refuses f old new s =
+    ((s ≡ status.Memory) × (new ≡ old))
+    ⊎ ((result : Result (Unit {0}) DeskFault) × Puts errors (fault_text f) old new result × (s ≡ written_status (refused_by f) result))
 
 -- all but what reading and refusals change
 abbrev pub Keeps : Outside → Outside → Type 0
@@ -89,31 +115,21 @@ Cause asked old new status.BadMachine = ReadsWhole asked new
 Cause asked old new status.BadLog = ReadsWhole asked new
 Cause asked old new status.AmbiguousMatch = ReadsWhole asked new
 Cause asked old new status.TooLong = ReadsWhole asked new
+Cause asked old new status.BudgetSpent = ReadsWhole asked new
 Cause asked old new status.TooBig = ReadsTooMuch asked new
 Cause asked old new status.ReadFault = FailsToRead asked old new
 Cause asked old new status.WriteFault = FailsToWrite old new
 Cause asked old new status.NoFile = FindsNoFile asked new
 Cause asked old new status.Memory = Unit {0}
 
--- a front of the text was put to its place, and all else is as before
-pub record PutsFront (place : Place) (text : List ℕ) (old new : Outside) : Type 0 where
-  pub count : ℕ
-  pub within : count ≤ length text
-  pub kept : Keeps (put place (take count text) old) new
-
--- the text is for a file, and that file wasn't made: all is as before
-abbrev pub IsNotMade : Place → Outside → Outside → Type 0
-IsNotMade (in_file name) old new = Keeps old new
-IsNotMade _ old new = ⊥
-
--- a front of the answer's text, unless its file wasn't made
+-- a front of what is to be written
 abbrev pub WritesFront : Answer → Outside → Outside → Type 0
-WritesFront a old new = PutsFront a.place a.text old new ⊎ IsNotMade a.place old new
+WritesFront a old new = AreCut Keeps a.note a.place a.text old new
 
--- the answer's status, and its whole text
+-- the answer's status, and its whole texts
 pub record WritesAnswer (a : Answer) (s : Status) (old new : Outside) : Type 0 where
   pub status : s ≡ a.status
-  pub kept : Keeps (put a.place a.text old) new
+  pub kept : Keeps (put a.place a.text (noted a.note old)) new
 
 abbrev pub Answers : Files → Option Asked → Outside → Outside → Status → Type 0
 Answers files asked old new status.ReadFault = Keeps old new

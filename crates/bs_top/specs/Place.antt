@@ -1,5 +1,5 @@
--- Where a text goes, and what is then outside.
-use Rattle.std.specs.Prelude.{ℕ, true, List, option_map}
+-- Where texts go, and what is then outside.
+use Rattle.std.specs.Prelude.{ℕ, true, List, Option, Some, None, option_map}
 use Rattle.bs_desk.specs.declared.desk.Port.TheVariants as port
 use Rattle.bs_desk.specs.Outside.{Outside, more_told, with_contents, written}
 
@@ -22,3 +22,13 @@ abbrev pub put : Place → List ℕ → Outside → Outside
 put output text o = written port.Out text o
 put errors text o = written port.Err text o
 put (in_file name) text o = with_file name text o
+
+-- a text for the file of that name
+pub record Note : Type 0 where
+  pub name : List ℕ
+  pub text : List ℕ
+
+-- with a note in its file, if there is one
+abbrev pub noted : Option Note → Outside → Outside
+noted None o = o
+noted (Some note) o = put (in_file note.name) note.text o

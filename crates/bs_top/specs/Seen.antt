@@ -1,14 +1,15 @@
 -- What contracts see of a command that was read, and of a reply.
-use Rattle.std.specs.Prelude.{string_bytes}
+use Rattle.std.specs.Prelude.{option_map, string_bytes}
 use Rattle.bs_top.specs.declared.asked.Asked.{Asked as AskedFor}
 use Rattle.bs_top.specs.declared.asked.Asked.TheVariants as asked
 use Rattle.bs_top.specs.declared.asked.MachineWord.{MachineWord as Machine}
 use Rattle.bs_top.specs.declared.asked.MachineWord.TheVariants as word
+use Rattle.bs_top.specs.declared.stop.Note.{Note as FileText}
 use Rattle.bs_top.specs.declared.stop.Reply.{Reply}
 use Rattle.bs_top.specs.declared.stop.Target.{Target}
 use Rattle.bs_top.specs.declared.stop.Target.TheVariants as target
-use Rattle.bs_top.specs.Place.{Place, output, in_file}
-use Rattle.bs_top.specs.Words.{Asked, check, model, emulate, run, predict, IsLimit, MachineWord, flat, file}
+use Rattle.bs_top.specs.Place.{Note, Place, output, errors, in_file}
+use Rattle.bs_top.specs.Words.{AreWaves, Asked, check, model, emulate, run, predict, trace, IsLimit, MachineWord, flat, file}
 use Rattle.bs_top.specs.Step.{Said}
 
 abbrev pub word_of : Machine → MachineWord
@@ -19,20 +20,26 @@ abbrev pub asked_of : AskedFor → Asked
 asked_of (asked.Check program) = check program.now
 asked_of (asked.Model program machine limit) = model program.now (word_of machine) limit
 asked_of (asked.Emulate program log limit) = emulate program.now log.now limit
-asked_of (asked.Run program machine limit) = run program.now (word_of machine) limit
-asked_of (asked.Predict log machine) = predict log.now (word_of machine)
+asked_of (asked.Run program machine limit waves) = run program.now (word_of machine) limit waves
+asked_of (asked.Predict log machine waves journal) = predict log.now (word_of machine) waves (option_map (λ name. name.now) journal)
+asked_of (asked.Trace log machine) = trace log.now (word_of machine)
 
--- the limit is one
+-- the limit is one, and the number of waves is one
 abbrev pub HasLimit : AskedFor → Type 0
 HasLimit (asked.Check program) = Unit {0}
 HasLimit (asked.Model program machine limit) = IsLimit limit
 HasLimit (asked.Emulate program log limit) = IsLimit limit
-HasLimit (asked.Run program machine limit) = IsLimit limit
-HasLimit (asked.Predict log machine) = Unit {0}
+HasLimit (asked.Run program machine limit waves) = IsLimit limit × AreWaves waves
+HasLimit (asked.Predict log machine waves journal) = AreWaves waves
+HasLimit (asked.Trace log machine) = Unit {0}
 
 abbrev pub place_of : Target → Place
 place_of target.Output = output
+place_of target.Errors = errors
 place_of (target.File name) = in_file (string_bytes name)
 
+abbrev pub note_of : FileText → Note
+note_of note = record { name = string_bytes note.name; text = note.text.items }
+
 abbrev pub said_of : Reply → Said
-said_of reply = record { end = reply.end; place = place_of reply.target; text = reply.text.items }
+said_of reply = record { ending = reply.ending; note = option_map note_of reply.note; place = place_of reply.target; text = reply.text.items }

@@ -1,13 +1,14 @@
 -- The steps of a command: each gives a value to go on with, or a reason to stop.
-use Rattle.std.specs.Prelude.{◌≡◌, ◌⊎◌, ℕ, List, Result, Ok, Err}
-use Rattle.bs_log.specs.declared.outcome.End.{End}
-use Rattle.bs_top.specs.Place.{Place}
+use Rattle.std.specs.Prelude.{◌≡◌, ◌⊎◌, ℕ, List, Option, Result, Ok, Err}
+use Rattle.bs_top.specs.declared.stop.Ending.{Ending}
+use Rattle.bs_top.specs.Place.{Note, Place}
 use Rattle.bs_top.specs.declared.stop.Stop.{Stop}
 use Rattle.bs_top.specs.declared.stop.Stop.TheVariants.{Refused, NoFile, ReadFault, Memory}
 
--- a text, where it goes, and how the command ends
+-- what a command says: how it ends, a text with its place, and maybe a note, which is written before it
 pub record Said : Type 0 where
-  pub end : End
+  pub ending : Ending
+  pub note : Option Note
   pub place : Place
   pub text : List ℕ
 

@@ -8,7 +8,9 @@ use Rattle.bs_machine.specs.declared.fault.MachineFault.TheVariants as machine
 use Rattle.bs_machine.specs.declared.fitted.PlaceLength.{PlaceLength}
 use Rattle.bs_parse.specs.declared.text.ParseFault.{ParseFault}
 use Rattle.bs_parse.specs.declared.text.ParseFault.TheVariants as parse
-use Rattle.bs_report.specs.declared.faults.Fault.TheVariants.{BadWords, BadProgram, CheckFailed, BadMachine, BadPlace, BadLog}
+use Rattle.bs_report.specs.declared.faults.Fault.TheVariants.{BadWords, BadProgram, CheckFailed, BadMachine, BadPlace, BadLog, BudgetSpent}
+use Rattle.bs_settle.specs.declared.settling.SettleFault.{SettleFault}
+use Rattle.bs_settle.specs.declared.settling.SettleFault.TheVariants as settle
 use Rattle.bs_words.specs.declared.fault.WordsFault.{WordsFault}
 use Rattle.bs_words.specs.declared.fault.WordsFault.TheVariants as words
 use Rattle.bs_top.specs.declared.stop.Stop.{Stop}
@@ -36,3 +38,7 @@ stop_for_log fault = Refused (BadLog fault)
 
 abbrev pub stop_for_place : PlaceLength → Stop
 stop_for_place length = Refused (BadPlace length)
+
+abbrev pub stop_for_waves : SettleFault → Stop
+stop_for_waves settle.Memory = Memory
+stop_for_waves (settle.BudgetSpent spent) = Refused (BudgetSpent spent)

@@ -1,15 +1,19 @@
 -- What the words of a command line ask for, as far as it is built (docs/output.md).
-use Rattle.std.specs.Prelude.{ℕ, ◌+◌, ◌≤◌, ◌^◌, nat_lt, List, [], ◌∷◌, length, take, drop, Option, Some, None, option_map, option_and_then, if◌then◌else◌, codes}
+use Rattle.std.specs.Prelude.{ℕ, ◌+◌, ◌≤◌, ◌^◌, nat_lt, List, [], ◌∷◌, length, take, drop, Option, Some, None, IfSome, option_map, option_and_then, if◌then◌else◌, codes}
 use Rattle.std.specs.Str.{bytes_eq}
 use Rattle.bs_words.specs.Parts.{command_in}
 use Rattle.bs_words.specs.Roles.{before_colon, number_from}
 use Rattle.bs_words.specs.declared.command.Command.{Command}
 use Rattle.bs_words.specs.declared.verb.Verb.{Verb}
-use Rattle.bs_words.specs.declared.verb.Verb.TheVariants.{Check, Model, Emulate, Predict, Run}
+use Rattle.bs_words.specs.declared.verb.Verb.TheVariants.{Check, Model, Emulate, Predict, Run, Trace}
 
 -- a limit of sizes is from 1 to 262,144
 abbrev pub IsLimit : ℕ → Type 0
 IsLimit limit = (1 ≤ limit) × (limit ≤ 262144)
+
+-- a number of waves is from 1 to 2^40; there may be none
+abbrev pub AreWaves : Option ℕ → Type 0
+AreWaves waves = IfSome waves (λ n. (1 ≤ n) × (n ≤ 2 ^ 40))
 
 -- a machine: its processors and its latency, or the name of its file
 pub data MachineWord : Type 0 where
@@ -17,13 +21,14 @@ pub data MachineWord : Type 0 where
   file : List ℕ → MachineWord
 
 -- a command that is built, with the name of the file of its program or its log, and what else it has: a machine, the name
--- of the log's file, the limit of sizes
+-- of the log's file, the limit of sizes, the number of waves, the name of the journal's file
 pub data Asked : Type 0 where
   check : List ℕ → Asked
   model : List ℕ → MachineWord → ℕ → Asked
   emulate : List ℕ → List ℕ → ℕ → Asked
-  run : List ℕ → MachineWord → ℕ → Asked
-  predict : List ℕ → MachineWord → Asked
+  run : List ℕ → MachineWord → ℕ → Option ℕ → Asked
+  predict : List ℕ → MachineWord → Option ℕ → Option (List ℕ) → Asked
+  trace : List ℕ → MachineWord → Asked
 
 abbrev pub flat_with : Option ℕ → Option ℕ → Option MachineWord
 flat_with (Some processors) (Some latency) = Some (flat processors latency)
@@ -41,23 +46,20 @@ flat_numbers text =
 abbrev pub machine_word : List ℕ → Option MachineWord
 machine_word word = if bytes_eq (take 5 word) (codes "flat:") then flat_numbers (drop 5 word) else Some (file word)
 
-abbrev pub asked_with : ℕ → Verb → List (List ℕ) → Option Asked
-asked_with limit Check (program ∷ []) = Some (check program)
-asked_with limit Model (program ∷ machine ∷ []) = option_map (λ m. model program m limit) (machine_word machine)
-asked_with limit Emulate (program ∷ log ∷ []) = Some (emulate program log limit)
-asked_with limit Run (program ∷ machine ∷ []) = option_map (λ m. run program m limit) (machine_word machine)
-asked_with limit Predict (log ∷ machine ∷ []) = option_map (predict log) (machine_word machine)
-asked_with _ _ _ = None
+-- a command with its limit of sizes, its waves and its journal; which of them it may have is known of its words
+abbrev pub asked_with : ℕ → Option ℕ → Option (List ℕ) → Verb → List (List ℕ) → Option Asked
+asked_with limit waves journal Check (program ∷ []) = Some (check program)
+asked_with limit waves journal Model (program ∷ machine ∷ []) = option_map (λ m. model program m limit) (machine_word machine)
+asked_with limit waves journal Emulate (program ∷ log ∷ []) = Some (emulate program log limit)
+asked_with limit waves journal Run (program ∷ machine ∷ []) = option_map (λ m. run program m limit waves) (machine_word machine)
+asked_with limit waves journal Predict (log ∷ machine ∷ []) = option_map (λ m. predict log m waves journal) (machine_word machine)
+asked_with limit waves journal Trace (log ∷ machine ∷ []) = option_map (trace log) (machine_word machine)
+asked_with _ _ _ _ _ = None
 
--- a number of waves and a journal are of no command that is built
-abbrev pub if_built : Option ℕ → Option (List ℕ) → Option Asked → Option Asked
-if_built None None asked = asked
-if_built waves journal asked = None
-
--- what is asked for, where the command is built: `check`, `model`, `emulate`, `run` or `predict`, these two without a number
--- of waves and without a journal; the number of workers changes nothing
+-- what is asked for, where the command is built: `check`, `model`, `emulate`, `run`, `predict` or `trace`; the number of
+-- workers changes nothing
 abbrev pub built : Command → Option Asked
-built command = if_built command.waves command.journal (asked_with command.limit command.verb command.names)
+built command = asked_with command.limit command.waves command.journal command.verb command.names
 
 abbrev pub asked_by : List (List ℕ) → Option Asked
 asked_by words = option_and_then built (command_in words)

@@ -2,20 +2,22 @@
 ghost use Rattle.std.specs.Prelude.{◌≡◌, ◌+◌, ◌<◌, ◌≤◌, length, take, drop, option_map, IfSome};
 ghost use Rattle.bs_words.specs.Roles.{before_colon, number_from};
 ghost use Rattle.bs_top.specs.Seen.{HasLimit, asked_of, word_of};
-ghost use Rattle.bs_top.specs.Words.{IsLimit, asked_with, built as built_of, flat_numbers, machine_word as machine_word_of};
+ghost use Rattle.bs_top.specs.Words.{AreWaves, IsLimit, asked_with, built as built_of, flat_numbers, machine_word as machine_word_of};
 
 use bs_num::read_decimal;
 use bs_words::{Argument, Command, Verb};
 
 /// A command that is built, with the name of the file of its program or its log, and what else it has: a
-/// machine, the name of the log's file, the limit of sizes.
+/// machine, the name of the log's file, the limit of sizes, the number of waves, the name of the journal's
+/// file.
 #[derive(Clone, Copy, Drop)]
 pub(crate) enum Asked<'a> {
     Check(&'a str),
     Model(&'a str, MachineWord<'a>, u64),
     Emulate(&'a str, &'a str, u64),
-    Run(&'a str, MachineWord<'a>, u64),
-    Predict(&'a str, MachineWord<'a>),
+    Run(&'a str, MachineWord<'a>, u64, Option<u64>),
+    Predict(&'a str, MachineWord<'a>, Option<u64>, Option<&'a str>),
+    Trace(&'a str, MachineWord<'a>),
 }
 
 /// A machine: its processors and its latency, or the name of its file.
@@ -27,21 +29,48 @@ pub(crate) enum MachineWord<'a> {
 
 /// What the command asks for, where it is built. It takes no memory.
 pub(crate) fn built(command: &Command) -> Option<Asked<'_>>
-    requires { IsLimit command.now.limit }
+    requires limit { IsLimit command.now.limit }
+    requires waves { AreWaves command.now.waves }
     ensures value { option_map asked_of result ≡ built_of command.now }
     ensures limit { IfSome result HasLimit }
 {
-    match (command.waves, &command.journal) {
-        (None, None) => with_names(command.limit, command.verb, command.names.as_slice()),
-        _ => None,
+    let options = Options {
+        limit: command.limit,
+        waves: command.waves,
+        journal: journal(command),
+    };
+    with_names(options, command.verb, command.names.as_slice())
+}
+
+// What the options of a command say.
+#[derive(Clone, Copy, Drop)]
+struct Options<'a> {
+    limit: u64,
+    waves: Option<u64>,
+    journal: Option<&'a str>,
+}
+
+// The name of the journal's file.
+fn journal(command: &Command) -> Option<&str>
+    ensures { option_map (λ name. name.now) result ≡ command.now.journal }
+{
+    match &command.journal {
+        Some(name) => Some(name.text()),
+        None => None,
     }
 }
 
-fn with_names(limit: u64, verb: Verb, names: &[Argument]) -> Option<Asked<'_>>
-    requires { IsLimit limit }
-    ensures value { option_map asked_of result ≡ asked_with limit verb names.now }
+fn with_names<'a>(options: Options<'a>, verb: Verb, names: &'a [Argument]) -> Option<Asked<'a>>
+    requires limit { IsLimit options.limit }
+    requires waves { AreWaves options.waves }
+    ensures value { option_map asked_of result ≡ asked_with options.entry.limit options.entry.waves (option_map (λ name. name.now) options.entry.journal) verb names.now }
     ensures limit { IfSome result HasLimit }
 {
+    let Options {
+        limit,
+        waves,
+        journal,
+    } = options;
     match (verb, names) {
         (Verb::Check, [program]) => Some(Asked::Check(program.text())),
         (Verb::Model, [program, machine]) => {
@@ -53,11 +82,15 @@ fn with_names(limit: u64, verb: Verb, names: &[Argument]) -> Option<Asked<'_>>
         }
         (Verb::Run, [program, machine]) => {
             let machine = machine_word(machine.text())?;
-            Some(Asked::Run(program.text(), machine, limit))
+            Some(Asked::Run(program.text(), machine, limit, waves))
         }
         (Verb::Predict, [log, machine]) => {
             let machine = machine_word(machine.text())?;
-            Some(Asked::Predict(log.text(), machine))
+            Some(Asked::Predict(log.text(), machine, waves, journal))
+        }
+        (Verb::Trace, [log, machine]) => {
+            let machine = machine_word(machine.text())?;
+            Some(Asked::Trace(log.text(), machine))
         }
         _ => None,
     }

@@ -10,7 +10,7 @@ ghost use Rattle.bs_top.specs.Step.{Told};
 ghost use Rattle.bs_top.specs.Words.{IsLimit, emulate as emulate_asked};
 
 use crate::steps::{accepted, unclean};
-use crate::stop::{Reply, Stop, Target};
+use crate::stop::{Ending, Reply, Stop, Target};
 use bs_check::Accepted;
 use bs_desk::Desk;
 use bs_emul::{Emulated, emulate_alone};
@@ -72,7 +72,8 @@ fn kept(alloc: Global, log: &Log, into: &str) -> Result<Reply, AllocError>
     let text = write_log(alloc, log)?;
     let into = String::from_str(alloc, into)?;
     Ok(Reply {
-        end: end(log),
+        ending: Ending::Run(end(log)),
+        note: None,
         target: Target::File(into),
         text,
     })

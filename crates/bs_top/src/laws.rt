@@ -1,5 +1,5 @@
 // Laws of what is answered. Each is a function whose contract is the law.
-ghost use Rattle.std.specs.Prelude.{◌≡◌, ◌↔◌, ℕ, List, Ok, Option, Some, length};
+ghost use Rattle.std.specs.Prelude.{◌≡◌, ◌↔◌, ℕ, List, None, Ok, Option, Some, length};
 ghost use Rattle.bs_desk.specs.Outside.{Files, Outside};
 ghost use Rattle.bs_log.specs.Collected.{log_of};
 ghost use Rattle.bs_log.specs.declared.history.History.{History};
@@ -7,10 +7,10 @@ ghost use Rattle.bs_log.specs.declared.log.Log.{Log};
 ghost use Rattle.bs_machine.specs.Machine.{MachineOf};
 ghost use Rattle.bs_semantics.specs.Verdict.{IsVerdict, clean};
 ghost use Rattle.bs_tree.specs.declared.tree.Program.{Program};
-ghost use Rattle.bs_top.specs.Answer.{Answer, IsAnswer, answer_of};
-ghost use Rattle.bs_top.specs.Complete.{CanEmulate, CanForetell, CanPredict, CanRun, Ends, HasProgram, IsPredicted, IsReported, canonical, logged_in};
+ghost use Rattle.bs_top.specs.Answer.{Answer, IsAnswer, answer_of, printed};
+ghost use Rattle.bs_top.specs.Complete.{CanEmulate, CanForetell, CanPredict, CanRun, Ends, HasProgram, IsAmple, IsAmpleFor, IsJournaled, IsPredicted, IsReported, IsTraced, logged_in};
 ghost use Rattle.bs_top.specs.Performs.{Answers};
-ghost use Rattle.bs_top.specs.Words.{Asked, IsLimit, MachineWord, check, emulate, model, predict, run};
+ghost use Rattle.bs_top.specs.Words.{Asked, IsLimit, MachineWord, check, emulate, model, predict, run, trace};
 ghost use Rattle.bs_top.specs.declared.status.Status.{Status};
 
 /// For given contents of the files a command has one answer.
@@ -26,36 +26,49 @@ pub fn one_answer()
     bs_logread::one_fault();
     bs_logtext::texts_are_small();
     bs_times::laws::timely_machines();
+    bs_times::laws::causal_nets();
+    bs_times::laws::uniqueness();
     bs_times::laws::one_outcome();
+    bs_settle::laws::one_settling();
+    bs_settle::laws::one_noting();
+    bs_serial::laws::verdict_times();
 }
 
 /// **Completeness.** Where the file of a program is there, of no more bytes than a file may have, and
 /// holds a program that keeps all rules, the answer to `check` is its canonical text (`check`). Where
 /// there is also a machine that fits the program, and the program's verdict at the limit is Clean, the
 /// answer to `model` is the report of an outcome that the serial machine model gives, with the status
-/// of its end (`model`), and so is the answer to `run` (`run`).
+/// of its end (`model`). So is the answer to `run`, where no number of waves is given or one that is
+/// enough for the log of the program (`run`).
 ///
 /// Where the file of a log is there and holds the text of a valid log, and there is a machine that fits
-/// it, the answer to `predict` is the report of the log's outcome at its one consistent table, with the
-/// status of its end (`predict`).
+/// it, the answer to `trace` is the trace of the log at its one consistent table, with the status of the
+/// log's end (`trace`). Where no number of waves is given or one that is enough for the log, the answer to
+/// `predict` is the report of the log's outcome at that table, with the status of its end (`predict`), and
+/// where a journal is asked for, the journal of its waves before that report (`journal`).
 ///
 /// Where the program's verdict at the limit is Clean, the answer to `emulate` is the text of the log of
 /// its Clean round for the log's file, with the status of the log's end (`emulate`).
 ///
-/// So a call that answers such a command over such files writes that text whole and ends with that
+/// So a call that answers such a command over such files writes these texts whole and ends with that
 /// status, or its status is read fault, write fault or want of memory (`checks`, `models`,
-/// `runs`, `emulates`, `predicts`). When the first two come is said by the clause `cause` of `perform_alone`.
+/// `runs`, `emulates`, `predicts`, `journals`, `traces`). When the first two come is said by the clause
+/// `cause` of `perform_alone`.
 pub fn complete()
-    ensures check { (files : Files) (name : List ℕ) (p : Program) (a : Answer) → HasProgram files name p → IsAnswer files (Some (check name)) a → a ≡ answer_of (Ok (canonical p)) }
+    ensures check { (files : Files) (name : List ℕ) (p : Program) (a : Answer) → HasProgram files name p → IsAnswer files (Some (check name)) a → a ≡ answer_of (Ok (printed p)) }
     ensures model { (files : Files) (name : List ℕ) (word : MachineWord) (limit : ℕ) (p : Program) (m : MachineOf) (a : Answer) → CanRun files name word limit p m → IsAnswer files (Some (model name word limit)) a → IsReported p m limit a }
-    ensures run { (files : Files) (name : List ℕ) (word : MachineWord) (limit : ℕ) (p : Program) (m : MachineOf) (a : Answer) → CanRun files name word limit p m → IsAnswer files (Some (run name word limit)) a → IsReported p m limit a }
+    ensures run { (files : Files) (name : List ℕ) (word : MachineWord) (limit : ℕ) (waves : Option ℕ) (p : Program) (m : MachineOf) (a : Answer) → CanRun files name word limit p m → IsAmpleFor waves p limit → IsAnswer files (Some (run name word limit waves)) a → IsReported p m limit a }
     ensures emulate { (files : Files) (name into : List ℕ) (limit : ℕ) (p : Program) (histories : List History) (a : Answer) → CanEmulate files name limit p histories → IsAnswer files (Some (emulate name into limit)) a → a ≡ logged_in into p histories }
-    ensures predict { (files : Files) (name : List ℕ) (word : MachineWord) (kept : Log) (m : MachineOf) (a : Answer) → CanPredict files name word kept m → IsAnswer files (Some (predict name word)) a → IsPredicted kept m a }
-    ensures checks { (files : Files) (name : List ℕ) (p : Program) (old new : Outside) (s : Status) → HasProgram files name p → Answers files (Some (check name)) old new s → Ends (λ a. a ≡ answer_of (Ok (canonical p))) old new s }
+    ensures predict { (files : Files) (name : List ℕ) (word : MachineWord) (waves : Option ℕ) (kept : Log) (m : MachineOf) (a : Answer) → CanPredict files name word kept m → IsAmple waves kept → IsAnswer files (Some (predict name word waves None)) a → IsPredicted kept m a }
+    ensures journal { (files : Files) (name into : List ℕ) (word : MachineWord) (waves : Option ℕ) (kept : Log) (m : MachineOf) (a : Answer) → CanPredict files name word kept m → IsAmple waves kept → IsAnswer files (Some (predict name word waves (Some into))) a → IsJournaled waves into kept m a }
+    ensures trace { (files : Files) (name : List ℕ) (word : MachineWord) (kept : Log) (m : MachineOf) (a : Answer) → CanPredict files name word kept m → IsAnswer files (Some (trace name word)) a → IsTraced kept m a }
+    ensures checks { (files : Files) (name : List ℕ) (p : Program) (old new : Outside) (s : Status) → HasProgram files name p → Answers files (Some (check name)) old new s → Ends (λ a. a ≡ answer_of (Ok (printed p))) old new s }
     ensures models { (files : Files) (name : List ℕ) (word : MachineWord) (limit : ℕ) (p : Program) (m : MachineOf) (old new : Outside) (s : Status) → CanRun files name word limit p m → Answers files (Some (model name word limit)) old new s → Ends (IsReported p m limit) old new s }
-    ensures runs { (files : Files) (name : List ℕ) (word : MachineWord) (limit : ℕ) (p : Program) (m : MachineOf) (old new : Outside) (s : Status) → CanRun files name word limit p m → Answers files (Some (run name word limit)) old new s → Ends (IsReported p m limit) old new s }
-    ensures predicts { (files : Files) (name : List ℕ) (word : MachineWord) (kept : Log) (m : MachineOf) (old new : Outside) (s : Status) → CanPredict files name word kept m → Answers files (Some (predict name word)) old new s → Ends (IsPredicted kept m) old new s }
+    ensures runs { (files : Files) (name : List ℕ) (word : MachineWord) (limit : ℕ) (waves : Option ℕ) (p : Program) (m : MachineOf) (old new : Outside) (s : Status) → CanRun files name word limit p m → IsAmpleFor waves p limit → Answers files (Some (run name word limit waves)) old new s → Ends (IsReported p m limit) old new s }
     ensures emulates { (files : Files) (name into : List ℕ) (limit : ℕ) (p : Program) (histories : List History) (old new : Outside) (s : Status) → CanEmulate files name limit p histories → Answers files (Some (emulate name into limit)) old new s → Ends (λ a. a ≡ logged_in into p histories) old new s }
+    ensures predicts { (files : Files) (name : List ℕ) (word : MachineWord) (waves : Option ℕ) (kept : Log) (m : MachineOf) (old new : Outside) (s : Status) → CanPredict files name word kept m → IsAmple waves kept → Answers files (Some (predict name word waves None)) old new s → Ends (IsPredicted kept m) old new s }
+    ensures journals { (files : Files) (name into : List ℕ) (word : MachineWord) (waves : Option ℕ) (kept : Log) (m : MachineOf) (old new : Outside) (s : Status) → CanPredict files name word kept m → IsAmple waves kept → Answers files (Some (predict name word waves (Some into))) old new s → Ends (IsJournaled waves into kept m) old new s }
+    ensures traces { (files : Files) (name : List ℕ) (word : MachineWord) (kept : Log) (m : MachineOf) (old new : Outside) (s : Status) → CanPredict files name word kept m → Answers files (Some (trace name word)) old new s → Ends (IsTraced kept m) old new s }
 {
     bs_parse::text_laws::one_program();
     bs_parse::text_laws::one_fault();
@@ -66,25 +79,38 @@ pub fn complete()
     bs_logread::one_fault();
     bs_logtext::texts_are_small();
     bs_times::laws::timely_machines();
+    bs_times::laws::causal_nets();
+    bs_times::laws::uniqueness();
     bs_times::laws::one_outcome();
+    bs_settle::laws::one_settling();
+    bs_settle::laws::one_noting();
+    bs_serial::laws::verdict_times();
 }
 
-/// **The headline.** What `run` answers is what `model` answers, whatever the files hold (`run`). And
-/// where a file holds the text of the log of a program's Clean round, at a limit that a command may have,
-/// what `predict` answers on a machine is what `model` answers to the program on that machine
-/// (`predict`): the report of the serial machine model, from the log alone.
+/// **The headline.** What `run` answers is what `model` answers, whatever the files hold (`run`); and so it
+/// is with a number of waves that is enough for the log of the program (`within`). And where a file holds
+/// the text of the log of a program's Clean round, at a limit that a command may have, what `predict`
+/// answers on a machine is what `model` answers to the program on that machine (`predict`): the report of
+/// the serial machine model, from the log alone. With a journal it is the same behind the journal
+/// (`journal`).
 ///
 /// That log is what `emulate` writes (the law `complete`). It is valid, by the law
 /// `clean_logs_are_valid` of `bs_range`. At a number above each such limit the log may have too many
 /// lines; where it is valid the same holds there (`valid`).
 pub fn headline()
-    ensures run { (files : Files) (name : List ℕ) (word : MachineWord) (limit : ℕ) (a : Answer) → IsAnswer files (Some (run name word limit)) a ↔ IsAnswer files (Some (model name word limit)) a }
-    ensures predict { (files later : Files) (name into : List ℕ) (word other : MachineWord) (limit : ℕ) (p : Program) (histories : List History) (m : MachineOf) (a b : Answer) →
-        IsLimit limit → CanRun files name word limit p m → IsVerdict p limit (clean histories) → CanForetell later into other (log_of histories (length p.entries)) m →
-        IsAnswer files (Some (model name word limit)) a → IsAnswer later (Some (predict into other)) b → b ≡ a }
-    ensures valid { (files later : Files) (name into : List ℕ) (word other : MachineWord) (limit : ℕ) (p : Program) (histories : List History) (m : MachineOf) (a b : Answer) →
-        CanRun files name word limit p m → IsVerdict p limit (clean histories) → CanPredict later into other (log_of histories (length p.entries)) m →
-        IsAnswer files (Some (model name word limit)) a → IsAnswer later (Some (predict into other)) b → b ≡ a }
+    ensures run { (files : Files) (name : List ℕ) (word : MachineWord) (limit : ℕ) (a : Answer) → IsAnswer files (Some (run name word limit None)) a ↔ IsAnswer files (Some (model name word limit)) a }
+    ensures within { (files : Files) (name : List ℕ) (word : MachineWord) (limit : ℕ) (waves : Option ℕ) (p : Program) (m : MachineOf) (a b : Answer) →
+        CanRun files name word limit p m → IsAmpleFor waves p limit →
+        IsAnswer files (Some (model name word limit)) a → IsAnswer files (Some (run name word limit waves)) b → b ≡ a }
+    ensures predict { (files later : Files) (name into : List ℕ) (word other : MachineWord) (limit : ℕ) (waves : Option ℕ) (p : Program) (histories : List History) (m : MachineOf) (a b : Answer) →
+        IsLimit limit → CanRun files name word limit p m → IsVerdict p limit (clean histories) → CanForetell later into other (log_of histories (length p.entries)) m → IsAmple waves (log_of histories (length p.entries)) →
+        IsAnswer files (Some (model name word limit)) a → IsAnswer later (Some (predict into other waves None)) b → b ≡ a }
+    ensures journal { (files later : Files) (name into beside : List ℕ) (word other : MachineWord) (limit : ℕ) (waves : Option ℕ) (p : Program) (histories : List History) (m : MachineOf) (a b : Answer) →
+        IsLimit limit → CanRun files name word limit p m → IsVerdict p limit (clean histories) → CanForetell later into other (log_of histories (length p.entries)) m → IsAmple waves (log_of histories (length p.entries)) →
+        IsAnswer files (Some (model name word limit)) a → IsAnswer later (Some (predict into other waves (Some beside))) b → record b { note = None } ≡ a }
+    ensures valid { (files later : Files) (name into : List ℕ) (word other : MachineWord) (limit : ℕ) (waves : Option ℕ) (p : Program) (histories : List History) (m : MachineOf) (a b : Answer) →
+        CanRun files name word limit p m → IsVerdict p limit (clean histories) → CanPredict later into other (log_of histories (length p.entries)) m → IsAmple waves (log_of histories (length p.entries)) →
+        IsAnswer files (Some (model name word limit)) a → IsAnswer later (Some (predict into other waves None)) b → b ≡ a }
 {
     bs_parse::text_laws::one_program();
     bs_parse::text_laws::one_fault();
@@ -95,7 +121,11 @@ pub fn headline()
     bs_logread::one_fault();
     bs_logtext::texts_are_small();
     bs_times::laws::timely_machines();
+    bs_times::laws::causal_nets();
+    bs_times::laws::uniqueness();
     bs_times::laws::one_outcome();
+    bs_settle::laws::one_settling();
+    bs_settle::laws::one_noting();
     bs_serial::laws::verdict_times();
     bs_range::laws::clean_logs_are_valid();
 }

@@ -5,13 +5,16 @@
 
 mod asked;
 mod emulating;
+mod journaling;
 pub mod laws;
 mod perform;
 mod predicting;
 mod running;
+mod settling;
 mod status;
 mod steps;
 mod stop;
+mod tracing;
 
 pub use perform::perform_alone;
 pub use status::Status;
@@ -20,6 +23,8 @@ pub use status::Status;
 mod agreement;
 #[cfg(test)]
 mod chares;
+#[cfg(test)]
+mod journals;
 #[cfg(test)]
 mod logs;
 #[cfg(test)]

@@ -6,16 +6,18 @@ ghost use Rattle.bs_machine.specs.Machine.{machine_view};
 ghost use Rattle.bs_report.specs.Report.{IsReportable};
 ghost use Rattle.bs_semantics.specs.Serial.{IsSerial, timed};
 ghost use Rattle.bs_times.specs.Machine.{machine_of};
-ghost use Rattle.bs_top.specs.Answer.{file_limit, logged, reply_to, simulated};
+ghost use Rattle.bs_settle.specs.Timed.{AreTimes};
+ghost use Rattle.bs_top.specs.Answer.{file_limit, logged, ran, reply_to};
 ghost use Rattle.bs_top.specs.Causes.{StepCause};
 ghost use Rattle.bs_top.specs.Computing.{Computes};
 ghost use Rattle.bs_top.specs.Seen.{said_of, word_of};
 ghost use Rattle.bs_top.specs.Step.{Told};
-ghost use Rattle.bs_top.specs.Words.{IsLimit, run as run_asked};
+ghost use Rattle.bs_top.specs.Words.{AreWaves, IsLimit, run as run_asked};
 
 use crate::asked::MachineWord;
 use crate::emulating::log_at;
 use crate::predicting::foretold;
+use crate::settling::times_within;
 use crate::steps::{FILE_LIMIT, accepted, fit, machine, report_of};
 use crate::stop::{Reply, Stop};
 use bs_check::Accepted;
@@ -23,38 +25,49 @@ use bs_desk::Desk;
 use bs_log::{Log, Outcome};
 use bs_machine::{Fitted, Machine};
 use bs_serial::laws::verdict_times;
+use bs_settle::Times;
 use bs_times::laws::timely_machines;
 use std::alloc::{AllocError, Global};
 
 /// Reads a program and a machine, takes the log of the program at a limit of sizes, and gives the report
-/// of the log's times on the machine.
+/// of the log's times on the machine, within a number of waves where one is given.
 pub(crate) fn run<D: Desk>(
     alloc: Global,
     desk: &mut D,
     name: &str,
     word: MachineWord<'_>,
     limit: u64,
+    waves: Option<u64>,
 ) -> Result<Reply, Stop>
-    requires { IsLimit limit }
+    requires limit { IsLimit limit }
+    requires waves { AreWaves waves }
     ensures reading { IsReading (D.world desk.old) (D.world desk.new) }
     ensures cause { StepCause file_limit (D.world desk.old) (D.world desk.new) result }
-    ensures told { IfSome (D.world desk.old).files (λ files. Told said_of (reply_to files (Some (run_asked name.now (word_of word.entry) limit))) result) }
+    ensures told { IfSome (D.world desk.old).files (λ files. Told said_of (reply_to files (Some (run_asked name.now (word_of word.entry) limit waves))) result) }
 {
     let accepted = accepted(alloc, desk, name)?;
     let machine = machine(alloc, desk, word, FILE_LIMIT)?;
-    run_log(alloc, &accepted, machine, limit)
+    run_log(alloc, &accepted, machine, limit, waves)
 }
 
 // Runs the log of a program on a machine. The report is that of the serial machine model.
-fn run_log(alloc: Global, accepted: &Accepted, machine: Machine, limit: u64) -> Result<Reply, Stop>
+fn run_log(
+    alloc: Global,
+    accepted: &Accepted,
+    machine: Machine,
+    limit: u64,
+    waves: Option<u64>,
+) -> Result<Reply, Stop>
     requires chares { (1 ≤ accepted.now.program.chares) × (accepted.now.program.chares ≤ 65536) }
     requires limit { IsLimit limit }
+    requires waves { AreWaves waves }
     ensures kind { Computes result }
-    ensures told { Told said_of (simulated accepted.now.program (machine_view machine) limit) result }
+    ensures told { Told said_of (ran waves accepted.now.program (machine_view machine) limit) result }
 {
     let fitted = fit(machine, accepted.chares())?;
     let log = log_at(alloc, accepted, limit)?;
-    let outcome = serial_outcome(alloc, accepted, &log, &fitted, limit)?;
+    let times = times_within(alloc, &log, &fitted, waves)?;
+    let outcome = serial_outcome(alloc, accepted, &log, &fitted, &times, limit)?;
     Ok(report_of(alloc, &outcome)?)
 }
 
@@ -65,16 +78,18 @@ fn serial_outcome(
     accepted: &Accepted,
     log: &Log,
     fitted: &Fitted,
+    times: &Times,
     _limit: u64,
 ) -> Result<Outcome, AllocError>
     requires valid { IsValid log.now }
     requires log { logged accepted.now.program _limit (Ok log.now) }
     requires chares { fitted.now.chares ≡ accepted.now.program.chares }
+    requires times { AreTimes log.now (machine_of fitted.now) times.now }
     ensures serial { IfOk result (λ outcome. IsSerial accepted.now.program _limit (machine_of fitted.now) (timed outcome)) }
     ensures reportable { IfOk result IsReportable }
 {
     let _program = accepted.program();
     timely_machines();
     verdict_times();
-    foretold(alloc, log, fitted)
+    foretold(alloc, log, fitted, times)
 }

@@ -25,6 +25,8 @@ pub enum Status {
     AmbiguousMatch,
     /// The size of the run is above the limit (16).
     TooLong,
+    /// The last wave of the given number of waves still changed a tick (17).
+    BudgetSpent,
     /// A file has more bytes than it may have (18).
     TooBig,
     /// A file could not be opened or read (20).
@@ -53,6 +55,7 @@ impl Status {
             Status::BadLog => 14,
             Status::AmbiguousMatch => 15,
             Status::TooLong => 16,
+            Status::BudgetSpent => 17,
             Status::TooBig => 18,
             Status::ReadFault => 20,
             Status::WriteFault => 21,

@@ -5,21 +5,19 @@ ghost use Rattle.bs_machine.specs.File.{machine_in};
 ghost use Rattle.bs_machine.specs.Machine.{flat_in, machine_view};
 ghost use Rattle.bs_check.specs.Refusal.{IsWhole};
 ghost use Rattle.bs_parse.specs.Text.{HasText};
-ghost use Rattle.bs_print.specs.Canonical.{text_of};
 ghost use Rattle.bs_times.specs.Machine.{machine_of};
 ghost use Rattle.bs_report.specs.Report.{IsReportable};
 ghost use Rattle.bs_semantics.specs.Rounds.{CleanAt};
 ghost use Rattle.bs_semantics.specs.Serial.{IsSerial, timed};
-ghost use Rattle.bs_top.specs.Answer.{accepted as accepted_of, checked, contents, file_limit, fits, judged, machine_named, or_bad_machine, program_in, reply_to, reported, simulated};
+ghost use Rattle.bs_top.specs.Answer.{accepted as accepted_of, checked, contents, file_limit, fits, judged, machine_named, or_bad_machine, printed as printed_of, program_in, reply_to, reported, simulated};
 ghost use Rattle.bs_top.specs.Causes.{HasRead, StepCause};
 ghost use Rattle.bs_top.specs.Computing.{Computes, IsComputedStop, IsUnclean};
-ghost use Rattle.bs_top.specs.Place.{output};
 ghost use Rattle.bs_top.specs.Seen.{said_of, word_of};
 ghost use Rattle.bs_top.specs.Step.{Told, gives};
 ghost use Rattle.bs_top.specs.Words.{IsLimit, check as check_asked, model as model_asked};
 
 use crate::asked::MachineWord;
-use crate::stop::{Reply, Stop, Target};
+use crate::stop::{Ending, Reply, Stop, Target};
 use bs_check::{Accepted, check};
 use bs_desk::{Desk, ReadAllFault, read_all};
 use bs_log::{End, Outcome};
@@ -197,7 +195,8 @@ pub(crate) fn report_of(alloc: Global, outcome: &Outcome) -> Result<Reply, Alloc
 {
     let text = report(alloc, outcome)?;
     Ok(Reply {
-        end: end(outcome),
+        ending: Ending::Run(end(outcome)),
+        note: None,
         target: Target::Output,
         text,
     })
@@ -215,11 +214,12 @@ pub(crate) fn check_text<D: Desk>(alloc: Global, desk: &mut D, name: &str) -> Re
 
 fn printed(alloc: Global, program: &Program) -> Result<Reply, AllocError>
     requires { HasText program.now }
-    ensures { IfOk result (λ reply. said_of reply ≡ record { end = End.Settled; place = output; text = text_of program.now }) }
+    ensures { IfOk result (λ reply. said_of reply ≡ printed_of program.now) }
 {
     let text = print(alloc, program)?;
     Ok(Reply {
-        end: End::Settled,
+        ending: Ending::Run(End::Settled),
+        note: None,
         target: Target::Output,
         text,
     })

@@ -1,6 +1,6 @@
 // What comes of a command before anything is written.
 ghost use Rattle.std.specs.Prelude.{◌≡◌};
-ghost use Rattle.bs_top.specs.Stops.{stop_for_check, stop_for_log, stop_for_machine, stop_for_place, stop_for_program, stop_for_words};
+ghost use Rattle.bs_top.specs.Stops.{stop_for_check, stop_for_log, stop_for_machine, stop_for_place, stop_for_program, stop_for_waves, stop_for_words};
 ghost use Rattle.bs_top.specs.declared.stop.Stop.TheVariants.{Memory};
 
 use bs_check::CheckFault;
@@ -9,20 +9,38 @@ use bs_logread::LogFault;
 use bs_machine::{MachineFault, PlaceLength};
 use bs_parse::ParseFault;
 use bs_report::Fault;
+use bs_settle::SettleFault;
 use bs_words::WordsFault;
 use std::alloc::AllocError;
 
-/// Where the text of a reply goes: to standard output, or to the file of that name.
+/// Where the text of a reply goes: to standard output, to standard error, or to the file of that name.
 #[derive(Drop)]
 pub(crate) enum Target {
     Output,
+    Errors,
     File(String),
 }
 
-/// A text, where it goes, and how the command ends.
+/// How a command ends that has something to say: as its run does, or with a number of waves that is spent.
+#[derive(Clone, Copy, Drop)]
+pub(crate) enum Ending {
+    Run(End),
+    Spent,
+}
+
+/// A text for the file of that name.
+#[derive(Drop)]
+pub(crate) struct Note {
+    pub(crate) name: String,
+    pub(crate) text: Vec<u8>,
+}
+
+/// What a command says: how it ends, a text and where it goes, and maybe a note, which is written before
+/// the text.
 #[derive(Drop)]
 pub(crate) struct Reply {
-    pub(crate) end: End,
+    pub(crate) ending: Ending,
+    pub(crate) note: Option<Note>,
     pub(crate) target: Target,
     pub(crate) text: Vec<u8>,
 }
@@ -107,5 +125,16 @@ impl From<PlaceLength> for Stop {
 
     fn from(length: PlaceLength) -> Stop {
         Stop::Refused(Fault::BadPlace(length))
+    }
+}
+
+impl From<SettleFault> for Stop {
+    ghost from_gives = { λ fault given. given ≡ stop_for_waves fault };
+
+    fn from(fault: SettleFault) -> Stop {
+        match fault {
+            SettleFault::Memory => Stop::Memory,
+            SettleFault::BudgetSpent(spent) => Stop::Refused(Fault::BudgetSpent(spent)),
+        }
     }
 }

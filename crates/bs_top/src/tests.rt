@@ -453,7 +453,7 @@ fn bad_words(rt: HostRuntime) -> Result<(), Fail> {
         &["run"],
         &["model", "p"],
         &["model", "-p", "flat:2:5"],
-        &["run", "p", "flat:2:5", "--waves", "3"],
+        &["trace", "p", "flat:2:5", "--waves", "3"],
         &["check"],
         &["model", "p", "flat:0:5"],
         &["model", "p", "flat:2:0"],

@@ -1,63 +1,73 @@
-use Rattle.std.proofs.Common.{◌≡◌, Ok, Some}
-use Rattle.bs_top.specs.Answer.{answer_of}
-use Rattle.bs_top.specs.Complete.{IsPredicted, IsReported, canonical, logged_in}
-use Rattle.bs_top.specs.Words.{check, model, emulate, run, predict}
-use Rattle.bs_top.proofs.Completing.{checks, emulates, ends, predicts, reports, reports_run}
+use Rattle.std.proofs.Common.{◌≡◌, None, Ok, Some}
+use Rattle.bs_top.specs.Answer.{answer_of, printed}
+use Rattle.bs_top.specs.Complete.{IsJournaled, IsPredicted, IsReported, IsTraced, logged_in}
+use Rattle.bs_top.specs.Words.{check, model, emulate, run, predict, trace}
+use Rattle.bs_top.proofs.Completing.{checks, emulates, ends, journals, predicts, reports, reports_run, traces}
 use Rattle.bs_top.proofs.OneLog.{LogLaws}
 use Rattle.bs_top.proofs.laws.complete.Goals as goal
 
 -- what is known of logs
-logs : goal.After-one_outcome → LogLaws
+logs : goal.After-verdict_times → LogLaws
 logs c = record {
   text = c.one_text.ensures;
   fault = c.one_fault-2.ensures.one;
   none = c.one_fault-2.ensures.none;
   small = c.texts_are_small.ensures;
   timely = c.timely_machines.ensures;
+  causal = c.causal_nets.ensures;
+  run_causal = c.verdict_times.ensures.causal;
+  table = c.uniqueness.ensures.one_of;
+  spent = c.one_settling.ensures.spent;
+  either = c.one_settling.ensures.either;
+  noting = c.one_noting.ensures.one;
   outcome = c.one_outcome.ensures;
 }
 
 pub returns-clause-check : goal.returns-clause-check
-returns-clause-check c files name p a =
-    checks files c.one_program.ensures c.one_fault.ensures c.no_both.ensures c.verdict.ensures.one c.one_serial.ensures (logs c) name p a
+returns-clause-check c files name p a = checks files c.one_program.ensures c.one_fault.ensures c.no_both.ensures c.verdict.ensures.one c.one_serial.ensures (logs c) name p a
 
 pub returns-clause-model : goal.returns-clause-model
-returns-clause-model c files name word limit p m a =
-    reports files c.one_program.ensures c.one_fault.ensures c.no_both.ensures c.verdict.ensures.one c.one_serial.ensures (logs c) name word limit p m a
+returns-clause-model c files name word limit p m a = reports files c.one_program.ensures c.one_fault.ensures c.no_both.ensures c.verdict.ensures.one c.one_serial.ensures (logs c) name word limit p m a
 
 pub returns-clause-run : goal.returns-clause-run
-returns-clause-run c files name word limit p m a =
-    reports_run files c.one_program.ensures c.one_fault.ensures c.no_both.ensures c.verdict.ensures.one c.one_serial.ensures (logs c) name word limit p m a
+returns-clause-run c files name word limit waves p m a = reports_run files c.one_program.ensures c.one_fault.ensures c.no_both.ensures c.verdict.ensures.one c.one_serial.ensures (logs c) name word limit waves p m a
 
-pub returns-clause-runs : goal.returns-clause-runs
-returns-clause-runs c files name word limit p m old new s can =
-    ends files (Some (run name word limit)) (IsReported p m limit)
-    (λ a is. reports_run files c.one_program.ensures c.one_fault.ensures c.no_both.ensures c.verdict.ensures.one c.one_serial.ensures (logs c) name word limit p m a can is) old new s
+pub returns-clause-emulate : goal.returns-clause-emulate
+returns-clause-emulate c files name into limit p histories a = emulates files c.one_program.ensures c.one_fault.ensures c.no_both.ensures c.verdict.ensures.one c.one_serial.ensures (logs c) name into limit p histories a
+
+pub returns-clause-predict : goal.returns-clause-predict
+returns-clause-predict c files name word waves kept m a = predicts files c.one_program.ensures c.one_fault.ensures c.no_both.ensures c.verdict.ensures.one c.one_serial.ensures (logs c) name word waves kept m a
+
+pub returns-clause-journal : goal.returns-clause-journal
+returns-clause-journal c files name into word waves kept m a = journals files c.one_program.ensures c.one_fault.ensures c.no_both.ensures c.verdict.ensures.one c.one_serial.ensures (logs c) name into word waves kept m a
+
+pub returns-clause-trace : goal.returns-clause-trace
+returns-clause-trace c files name word kept m a = traces files c.one_program.ensures c.one_fault.ensures c.no_both.ensures c.verdict.ensures.one c.one_serial.ensures (logs c) name word kept m a
 
 pub returns-clause-checks : goal.returns-clause-checks
 returns-clause-checks c files name p old new s has =
-    ends files (Some (check name)) (λ a. a ≡ answer_of (Ok (canonical p)))
-    (λ a is. checks files c.one_program.ensures c.one_fault.ensures c.no_both.ensures c.verdict.ensures.one c.one_serial.ensures (logs c) name p a has is) old new s
+    ends files (Some (check name)) (λ a. a ≡ answer_of (Ok (printed p))) (λ a is. returns-clause-check c files name p a has is) old new s
 
 pub returns-clause-models : goal.returns-clause-models
 returns-clause-models c files name word limit p m old new s can =
-    ends files (Some (model name word limit)) (IsReported p m limit)
-    (λ a is. reports files c.one_program.ensures c.one_fault.ensures c.no_both.ensures c.verdict.ensures.one c.one_serial.ensures (logs c) name word limit p m a can is) old new s
+    ends files (Some (model name word limit)) (IsReported p m limit) (λ a is. returns-clause-model c files name word limit p m a can is) old new s
 
-pub returns-clause-emulate : goal.returns-clause-emulate
-returns-clause-emulate c files name into limit p histories a =
-    emulates files c.one_program.ensures c.one_fault.ensures c.no_both.ensures c.verdict.ensures.one c.one_serial.ensures (logs c) name into limit p histories a
+pub returns-clause-runs : goal.returns-clause-runs
+returns-clause-runs c files name word limit waves p m old new s can ample =
+    ends files (Some (run name word limit waves)) (IsReported p m limit) (λ a is. returns-clause-run c files name word limit waves p m a can ample is) old new s
 
 pub returns-clause-emulates : goal.returns-clause-emulates
 returns-clause-emulates c files name into limit p histories old new s can =
-    ends files (Some (emulate name into limit)) (λ a. a ≡ logged_in into p histories)
-    (λ a is. emulates files c.one_program.ensures c.one_fault.ensures c.no_both.ensures c.verdict.ensures.one c.one_serial.ensures (logs c) name into limit p histories a can is) old new s
-
-pub returns-clause-predict : goal.returns-clause-predict
-returns-clause-predict c files name word kept m a =
-    predicts files c.one_program.ensures c.one_fault.ensures c.no_both.ensures c.verdict.ensures.one c.one_serial.ensures (logs c) name word kept m a
+    ends files (Some (emulate name into limit)) (λ a. a ≡ logged_in into p histories) (λ a is. returns-clause-emulate c files name into limit p histories a can is) old new s
 
 pub returns-clause-predicts : goal.returns-clause-predicts
-returns-clause-predicts c files name word kept m old new s can =
-    ends files (Some (predict name word)) (IsPredicted kept m)
-    (λ a is. predicts files c.one_program.ensures c.one_fault.ensures c.no_both.ensures c.verdict.ensures.one c.one_serial.ensures (logs c) name word kept m a can is) old new s
+returns-clause-predicts c files name word waves kept m old new s can ample =
+    ends files (Some (predict name word waves None)) (IsPredicted kept m) (λ a is. returns-clause-predict c files name word waves kept m a can ample is) old new s
+
+pub returns-clause-journals : goal.returns-clause-journals
+returns-clause-journals c files name into word waves kept m old new s can ample =
+    ends files (Some (predict name word waves (Some into))) (IsJournaled waves into kept m) (λ a is. returns-clause-journal c files name into word waves kept m a can ample is) old new s
+
+pub returns-clause-traces : goal.returns-clause-traces
+returns-clause-traces c files name word kept m old new s can =
+    ends files (Some (trace name word)) (IsTraced kept m) (λ a is. returns-clause-trace c files name word kept m a can is) old new s

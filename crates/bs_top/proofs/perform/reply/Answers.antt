@@ -8,13 +8,16 @@ use Rattle.bs_top.specs.Seen.{asked_of, said_of}
 use Rattle.bs_top.specs.Step.{Told}
 use Rattle.bs_top.specs.Stops.{stop_for_words}
 use Rattle.bs_top.specs.Words.{asked_by}
-use Rattle.bs_top.proofs.Limits.{limit_of}
+use Rattle.bs_top.proofs.Limits.{limit_of, waves_of}
 use Rattle.bs_top.proofs.Replying.{asked_is, bad_words, no_words, not_asked}
 use Rattle.bs_top.proofs.Stages.{always, at_stop}
 use Rattle.bs_top.proofs.perform.reply.Goals as goal
 
-pub built-requires : goal.built-requires
-built-requires g c = limit_of (map string_bytes c.args.words.now) c.in_ok-command.command c.in_ok-command.ensures.ok
+pub built-requires-clause-limit : goal.built-requires-clause-limit
+built-requires-clause-limit g c = limit_of (map string_bytes c.args.words.now) c.in_ok-command.command c.in_ok-command.ensures.ok
+
+pub built-requires-clause-waves : goal.built-requires-clause-waves
+built-requires-clause-waves g c = waves_of (map string_bytes c.args.words.now) c.in_ok-command.command c.in_ok-command.ensures.ok
 
 pub returns-in_err-command-clause-told : goal.returns-in_err-command-clause-told
 returns-in_err-command-clause-told g c =
@@ -57,6 +60,13 @@ returns-in-Some-Predict-clause-told g c =
     let is = asked_is (command_in words) c.in_ok-command.command c.built.result c.in-Some-Predict.field-0 c.in_ok-command.ensures.ok c.built.ensures.value c.in-Some-Predict.is in
     subst (λ q. IfSome (g.D.Desk.world c.args.desk.now).files (λ files. Told said_of (reply_to files q) c.predict.result))
     (sym (is ∙ ap (λ a. Some (asked_of a)) c.in-Some-Predict.field-0-is)) c.predict.ensures.told
+
+pub returns-in-Some-Trace-clause-told : goal.returns-in-Some-Trace-clause-told
+returns-in-Some-Trace-clause-told g c =
+    let words = map string_bytes c.args.words.now in
+    let is = asked_is (command_in words) c.in_ok-command.command c.built.result c.in-Some-Trace.field-0 c.in_ok-command.ensures.ok c.built.ensures.value c.in-Some-Trace.is in
+    subst (λ q. IfSome (g.D.Desk.world c.args.desk.now).files (λ files. Told said_of (reply_to files q) c.trace.result))
+    (sym (is ∙ ap (λ a. Some (asked_of a)) c.in-Some-Trace.field-0-is)) c.trace.ensures.told
 
 pub returns-clause-told : goal.returns-clause-told
 returns-clause-told g c =

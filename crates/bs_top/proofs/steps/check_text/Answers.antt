@@ -1,8 +1,5 @@
 use Rattle.std.proofs.Common.{refl, Some, ap, ◌∙◌}
-use Rattle.bs_log.specs.declared.outcome.End.TheVariants as end
-use Rattle.bs_print.specs.Canonical.{text_of}
-use Rattle.bs_top.specs.Answer.{reply_to}
-use Rattle.bs_top.specs.Place.{output}
+use Rattle.bs_top.specs.Answer.{printed, reply_to}
 use Rattle.bs_top.specs.Seen.{said_of}
 use Rattle.bs_top.specs.Step.{Told}
 use Rattle.bs_top.specs.Words.{check}
@@ -23,4 +20,4 @@ returns-clause-told g c =
     let old = (g.D.Desk.world c.args.desk.now).files in
     each old old _ _ refl (λ files h.
     prints files c.args.name.now c.in_ok-accepted.accepted.program h (said_of c.in_ok-printed.field-0)
-    (c.in_ok-printed.ensures ∙ ap (λ q. record { end = end.Settled; place = output; text = text_of q }) c.program.ensures.value)) c.in_ok-accepted.ensures.told
+    (c.in_ok-printed.ensures ∙ ap printed c.program.ensures.value)) c.in_ok-accepted.ensures.told

@@ -1,11 +1,11 @@
-use Rattle.std.proofs.Common.{refl, ap, Some}
+use Rattle.std.proofs.Common.{refl, ap, Some, Err}
 use Rattle.bs_desk.specs.Outside.{Outside}
 use Rattle.bs_machine.specs.Machine.{machine_view}
-use Rattle.bs_top.specs.Answer.{reply_to}
+use Rattle.bs_top.specs.Answer.{reply_to, simulated}
 use Rattle.bs_top.specs.Seen.{said_of, word_of}
 use Rattle.bs_top.specs.Step.{Told}
 use Rattle.bs_top.specs.Words.{model}
-use Rattle.bs_top.proofs.Replying.{not_accepted, no_machine, on_machine}
+use Rattle.bs_top.proofs.Replying.{not_accepted, no_machine, on_machine, told_model}
 use Rattle.bs_top.proofs.Stages.{at_stop, each, each_two}
 use Rattle.bs_top.proofs.steps.model.Goals as goal
 
@@ -24,15 +24,20 @@ returns-in_err-machine-clause-told g c =
     let mid = (g.D.Desk.world c.accepted.new.desk).files in
     let name = c.args.name.now in
     let word = word_of c.args.word in
+    let stop = c.in_err-machine.field-0.0 in
     each_two old mid _ _ _ (ap (λ (o : Outside). o.files) c.in_ok-accepted.ensures.reading) (λ files h k.
-    at_stop (Told said_of (reply_to files (Some (model name word c.args.limit)))) c.in_err-machine.field-0.0 c.from_residual-in_err-machine.result c.from_residual-in_err-machine.ensures.1
-    (no_machine files name c.in_ok-accepted.accepted.program h word c.args.limit c.in_err-machine.field-0.0 k)) c.in_ok-accepted.ensures.told c.in_err-machine.ensures.told
+    at_stop (Told said_of (reply_to files (Some (model name word c.args.limit)))) stop c.from_residual-in_err-machine.result c.from_residual-in_err-machine.ensures.1
+    (told_model files name word c.args.limit (Err stop)
+    (no_machine files name c.in_ok-accepted.accepted.program h word (λ p m. simulated p m c.args.limit) stop k))) c.in_ok-accepted.ensures.told c.in_err-machine.ensures.told
 
 pub returns-clause-told : goal.returns-clause-told
 returns-clause-told g c =
     let old = (g.D.Desk.world c.args.desk.now).files in
     let mid = (g.D.Desk.world c.accepted.new.desk).files in
     let m = machine_view c.in_ok-machine.machine in
+    let name = c.args.name.now in
+    let word = word_of c.args.word in
     each_two old mid _ _ _ (ap (λ (o : Outside). o.files) c.in_ok-accepted.ensures.reading) (λ files h k.
-    on_machine files c.args.name.now c.in_ok-accepted.accepted.program h (word_of c.args.word) c.args.limit m c.run_model.result k
-    c.run_model.ensures.told) c.in_ok-accepted.ensures.told c.in_ok-machine.ensures.told
+    told_model files name word c.args.limit c.run_model.result
+    (on_machine files name c.in_ok-accepted.accepted.program h word (λ p m. simulated p m c.args.limit) m c.run_model.result k
+    c.run_model.ensures.told)) c.in_ok-accepted.ensures.told c.in_ok-machine.ensures.told
