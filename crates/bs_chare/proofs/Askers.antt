@@ -9,9 +9,9 @@ use Rattle.std.specs.declared.cmp.Ordering.TheVariants.{Less, Equal, Greater}
 use Rattle.std.specs.BTreeMap.{BTreeMap, get_by, Updates}
 use Rattle.bs_log.specs.declared.history.Key.{Key}
 use Rattle.bs_log.specs.declared.history.Asked.{Asked}
-use Rattle.bs_match.specs.Mail.{key_cmp}
+use Rattle.bs_log.specs.Messages.{key_cmp, same_key, one_asked}
+use Rattle.bs_log.specs.Lists.{Mem, Apart}
 use Rattle.bs_match.proofs.Keys.{key_cmp_total, is_same, same_key_is, same_key_refl, same_key_symm}
-use Rattle.bs_semantics.specs.Rounds.{Mem, Apart, same_key, one_asked}
 use Rattle.bs_chare.specs.Asked.{askers, times, IsLeast, IsLeastTwice, lesser}
 
 -- ---- keys that are put into a set one by one

@@ -5,10 +5,11 @@ use mathlib.Core.Path.{PathP}
 use mathlib.Core.Equiv.{id_equiv}
 use mathlib.Core.HLevel.{is_prop→PathP}
 use Rattle.bs_log.specs.Size.{size}
+use Rattle.bs_log.specs.Lists.{Apart}
+use Rattle.bs_log.specs.Messages.{one_asked}
 use Rattle.bs_log.specs.declared.history.Message.{Message}
 use Rattle.bs_log.specs.declared.history.History.{History}
 use Rattle.bs_match.specs.Mail.{lookup}
-use Rattle.bs_semantics.specs.Rounds.{Apart, one_asked}
 use Rattle.bs_chare.specs.declared.chare.Chare.{Chare}
 use Rattle.bs_chare.specs.Asked.{apart_prop}
 use Rattle.bs_chare.specs.Chare.{HoldsProper, told}

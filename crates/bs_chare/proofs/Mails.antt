@@ -6,10 +6,11 @@ use Rattle.std.specs.List.{AllByRecursion}
 use Rattle.std.specs.List.Sorted.{IsStrictlySortedBy}
 use Rattle.bs_log.specs.declared.history.Key.{Key}
 use Rattle.bs_log.specs.declared.history.Message.{Message}
-use Rattle.bs_match.specs.Mail.{key_cmp, HasRisingKeys, lookup, with_message}
+use Rattle.bs_log.specs.Messages.{key_cmp, same_key}
+use Rattle.bs_log.specs.Lists.{Mem}
+use Rattle.bs_match.specs.Mail.{HasRisingKeys, lookup, with_message}
 use Rattle.bs_match.proofs.Keys.{is_same, same_key_is, same_key_refl}
 use Rattle.bs_semantics.specs.Run.{Lookup}
-use Rattle.bs_semantics.specs.Rounds.{Mem, same_key}
 use Rattle.bs_semantics.specs.Growth.{PartOf}
 use Rattle.bs_semantics.proofs.Options.{none_some, some_same}
 use Rattle.bs_chare.specs.Chare.{IsProper, HoldsProper}

@@ -8,13 +8,14 @@ use Rattle.bs_tree.specs.declared.tree.Program.{Program}
 use Rattle.bs_tree.specs.declared.tree.Path.{Path}
 use Rattle.bs_log.specs.declared.history.Message.{Message}
 use Rattle.bs_log.specs.declared.history.Block.{Block}
-use Rattle.bs_log.specs.Messages.{same_path}
+use Rattle.bs_log.specs.Messages.{same_path, sends_of}
+use Rattle.bs_log.specs.Lists.{Mem}
+use Rattle.bs_log.specs.Paths.{IsBelow}
+use Rattle.bs_log.specs.Rising.{Rising}
 use Rattle.bs_log.proofs.ClosedTests.{same_path_is}
 use Rattle.bs_semantics.specs.Acts.{Parcel}
 use Rattle.bs_semantics.specs.Run.{Lookup, signed, history}
-use Rattle.bs_semantics.specs.Rounds.{Mem, sends_of}
 use Rattle.bs_semantics.specs.Growth.{Subsequence, none, keep, skip, PartOf}
-use Rattle.bs_semantics.specs.Orderly.{IsBelow, Rising}
 use Rattle.bs_semantics.proofs.Growth.{grows_whole}
 use Rattle.bs_semantics.proofs.Rising.{run_rising}
 use Rattle.bs_semantics.proofs.Signed.{run_signed}

@@ -4,12 +4,14 @@ use Rattle.bs_tree.specs.declared.tree.Program.{Program}
 use Rattle.bs_log.specs.declared.history.Message.{Message}
 use Rattle.bs_log.specs.declared.history.Block.{Block}
 use Rattle.bs_log.specs.declared.history.History.{History}
+use Rattle.bs_log.specs.Lists.{Mem}
+use Rattle.bs_log.specs.Messages.{sends_of}
+use Rattle.bs_log.specs.Histories.{no_history}
 use Rattle.bs_match.specs.Mail.{lookup, with_message}
 use Rattle.bs_semantics.specs.Run.{Lookup, history}
-use Rattle.bs_semantics.specs.Rounds.{Mem, sends_of}
 use Rattle.bs_semantics.specs.Growth.{PartOf}
 use Rattle.bs_semantics.proofs.Subsequences.{empty}
-use Rattle.bs_chare.specs.Chare.{IsProper, HoldsProper, no_history, told}
+use Rattle.bs_chare.specs.Chare.{IsProper, HoldsProper, told}
 use Rattle.bs_chare.specs.News.{AreNews, fresh}
 use Rattle.bs_chare.proofs.Mails.{proper_with}
 use Rattle.bs_chare.proofs.NewSends.{history_news}

@@ -6,8 +6,8 @@ use Rattle.std.specs.declared.cmp.Ordering.TheVariants.{Less}
 use Rattle.bs_tree.specs.declared.tree.Path.{Path}
 use Rattle.bs_log.specs.declared.history.Key.{Key}
 use Rattle.bs_log.specs.declared.history.Asked.{Asked}
-use Rattle.bs_match.specs.Mail.{key_cmp}
-use Rattle.bs_semantics.specs.Rounds.{Mem, Apart, same_key, one_asked}
+use Rattle.bs_log.specs.Messages.{key_cmp, same_key, one_asked}
+use Rattle.bs_log.specs.Lists.{Mem, Apart}
 use Rattle.bs_chare.specs.declared.fault.ChareFault.{ChareFault}
 use Rattle.bs_chare.specs.declared.fault.ChareFault.TheVariants.{TwoSent, TwoAsked, Long, Memory}
 

@@ -6,11 +6,8 @@ use Rattle.bs_log.specs.declared.history.Message.{Message}
 use Rattle.bs_log.specs.declared.history.TrapAt.{TrapAt}
 use Rattle.bs_log.specs.declared.history.WaitAt.{WaitAt}
 use Rattle.bs_log.specs.declared.history.History.{History}
+use Rattle.bs_log.specs.Histories.{no_history}
 use Rattle.bs_semantics.specs.Run.{Lookup, history}
-
--- the history of a chare that has done nothing
-abbrev pub no_history : History
-no_history = record { blocks = []; asked = []; waits = []; traps = []; ended = false }
 
 -- the history that a chare tells: none before it begins, and then the one under its mail
 abbrev pub told : Bool → Program → ℕ → ℕ → Lookup → History

@@ -3,7 +3,7 @@ use Rattle.std.specs.Prelude.{◌≡◌, ◌⊎◌, Bool, false, if◌then◌els
 use Rattle.bs_log.specs.declared.history.Message.{Message}
 use Rattle.bs_log.specs.declared.history.Block.{Block}
 use Rattle.bs_log.specs.Messages.{same_path}
-use Rattle.bs_semantics.specs.Rounds.{Mem}
+use Rattle.bs_log.specs.Lists.{Mem}
 use Rattle.bs_semantics.specs.Growth.{Subsequence}
 
 -- these are the messages that are sent and weren't sent before, in the order in which they are sent

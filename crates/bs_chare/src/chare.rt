@@ -2,10 +2,12 @@
 ghost use Rattle.std.specs.Prelude.{◌≡◌, ◌≤◌, ◌<◌, ℕ, Bool, true, false, [], None, IfOk, IfErr, OnOk, OnErr};
 ghost use Rattle.std.specs.Coded.{Coded-set};
 ghost use Rattle.bs_log.specs.Size.{size};
+ghost use Rattle.bs_log.specs.Lists.{Apart};
+ghost use Rattle.bs_log.specs.Messages.{one_asked, sends_of};
+ghost use Rattle.bs_log.specs.Histories.{no_history};
 ghost use Rattle.bs_match.specs.Mail.{lookup, with_message};
-ghost use Rattle.bs_semantics.specs.Rounds.{Apart, one_asked, sends_of};
 ghost use Rattle.bs_chare.specs.Asked.{apart_prop};
-ghost use Rattle.bs_chare.specs.Chare.{HoldsProper, IsProper, no_history, told};
+ghost use Rattle.bs_chare.specs.Chare.{HoldsProper, IsProper, told};
 ghost use Rattle.bs_chare.specs.News.{AreNews};
 
 use crate::asked::ask_once;
@@ -55,8 +57,9 @@ pub enum ChareState {
 impl<'p> Chare<'p> {
     ghost use Rattle.std.specs.Prelude.{◌≡◌, ◌≤◌, ◌<◌, ℕ, Bool, true, false, [], None, IfOk, IfErr, OnOk, OnErr};
     ghost use Rattle.bs_match.specs.Mail.{lookup, with_message};
-    ghost use Rattle.bs_semantics.specs.Rounds.{sends_of};
-    ghost use Rattle.bs_chare.specs.Chare.{HoldsProper, IsProper, no_history};
+    ghost use Rattle.bs_log.specs.Messages.{sends_of};
+    ghost use Rattle.bs_log.specs.Histories.{no_history};
+    ghost use Rattle.bs_chare.specs.Chare.{HoldsProper, IsProper};
     ghost use Rattle.bs_chare.specs.News.{AreNews};
     ghost use Rattle.bs_chare.specs.State.{IsSameChare, state_of};
     ghost use Rattle.bs_chare.specs.Fault.{IsRefused, IsRunFault, Runs, history_under};

@@ -1,20 +1,21 @@
 -- Where no statement among these and those inside them breaks a rule, each of them fits and none is an idle loop.
-use Rattle.std.proofs.Common.{◌≡◌, ℕ, ◌+◌, Bool, true, false, not, ◌&&◌, ◌||◌, List, [], ◌∷◌, ◌++◌, Option, Some, None, map, refl, sym, ap, ap₂, subst, subst₂, ◌∙◌}
+use Rattle.std.proofs.Common.{◌≡◌, inl, inr, ℕ, ◌+◌, Bool, true, false, not, ◌&&◌, ◌||◌, List, [], ◌∷◌, ◌++◌, Option, Some, None, map, refl, sym, ap, ap₂, subst, subst₂, ◌∙◌}
 use Rattle.std.proofs.Math.Bool.{and_assoc}
 use Rattle.bs_tree.specs.Reads.{any_true}
 use Rattle.bs_tree.specs.Spends.{stmt_spends_step, stmt_spends, any_stmt_spends}
 use Rattle.bs_tree.specs.declared.tree.Expr.{Expr}
 use Rattle.bs_tree.specs.declared.tree.NameId.{NameId}
-use Rattle.bs_tree.specs.declared.tree.Stmt.{Stmt, roll-Stmt}
+use Rattle.bs_tree.specs.declared.tree.Stmt.{Stmt, out-Stmt, roll-Stmt}
 use Rattle.bs_tree.specs.declared.tree.Stmt.TheViews.{out-roll-Stmt}
 use Rattle.bs_tree.specs.declared.tree.Stmt.TheOpen.{Stmt-F}
 use Rattle.bs_tree.specs.declared.tree.Stmt.TheFolds.{fold-roll-Stmt, ind-Stmt, map-Stmt}
 use Rattle.bs_tree.specs.declared.tree.Program.{Program}
+use Rattle.bs_log.specs.Lists.{Mem}
 use Rattle.bs_semantics.specs.Spending.{Spending, any_spends, all_busy, spending_step, spending, HasNoIdleLoop}
 use Rattle.bs_check.specs.Every.{Listed, inside_step, listed_step, listed, every}
 use Rattle.bs_check.specs.Fits.{is_for_fit, fit_step, is_fit, are_fit}
 use Rattle.bs_check.specs.Known.{is_scalar, is_known}
-use Rattle.bs_check.specs.Rules.{knows, counts, idles, is_stmt_known, is_stmt_counted, is_idle, interference, where_not, or_next, broken_rule}
+use Rattle.bs_check.specs.Rules.{knows, counts, shares, idles, is_stmt_known, is_stmt_counted, is_idle, interference, where_not, or_next, broken_rule}
 use Rattle.bs_check.specs.Refusal.{Broken, or_later, first_broken, declarations_rule, refusal}
 use Rattle.bs_check.specs.declared.fault.Rule.{Rule}
 use Rattle.bs_check.specs.declared.fault.Rule.TheVariants.{UnknownName, Arity, IdleLoop}
@@ -49,7 +50,7 @@ layer_spends (Stmt-F.Seq body) = some_spends body
 abbrev SpendsSo : Bool → Spending → Type 0
 SpendsSo b s = b ≡ s.spends
 
-spends_alike : (s : Stmt) → SpendsAlike s
+pub spends_alike : (s : Stmt) → stmt_spends s ≡ (spending s).spends
 spends_alike = ind-Stmt SpendsAlike (λ x y is.
     subst₂ SpendsSo (sym (fold-roll-Stmt Bool stmt_spends_step x)) (sym (fold-roll-Stmt Spending spending_step x))
     (subst (λ z. SpendsSo (stmt_spends_step (map-Stmt Stmt Bool stmt_spends z)) (spending_step (map-Stmt Stmt Spending spending z))) is (layer_spends y)))
@@ -107,6 +108,22 @@ none_broken p n [] h = tt
 none_broken p n (s ∷ ss) h =
     let both = none_here n (broken_rule p s) (first_broken p (n + 1) ss) h in
     (both.0, none_broken p (n + 1) ss both.1)
+
+first_none : (first next : Option Rule) → or_next first next ≡ None → first ≡ None
+first_none None next h = refl
+first_none (Some rule) next h = absurd (cc)
+
+one_unbroken : (p : Program) (ss : List Stmt) → NoneBroken p ss → (s : Stmt) → Mem s ss → broken_rule p s ≡ None
+one_unbroken p [] h s i = absurd i
+one_unbroken p (x ∷ ss) h s (inl e) = ap (broken_rule p) e ∙ h.0
+one_unbroken p (x ∷ ss) h s (inr i) = one_unbroken p ss h.1 s i
+
+shares_none : (p : Program) (s : Stmt) → broken_rule p s ≡ None → shares p (out-Stmt s) ≡ None
+unfolding broken_rule interference
+shares_none p s h =
+    let first = was_kept (is_stmt_known p s) UnknownName _ h in
+    let second = was_kept (is_stmt_counted p s) Arity _ first.1 in
+    first_none (interference p s) _ second.1
 
 none_in : (p : Program) (xs ys : List Stmt) → NoneBroken p (xs ++ ys) → NoneBroken p xs × NoneBroken p ys
 none_in p [] ys h = (tt, h)
@@ -192,9 +209,16 @@ module _ (p : Program) where
       let both = none_in p (listed s).inside (every body) h.1 in
       one_more s body (is_sound s (ap (broken_rule p) (sym (self_is s)) ∙ h.0) both.0) (body_sound body both.1)
 
-  unbroken : refusal p ≡ None → AllSound p.body
+  none_broken_here : refusal p ≡ None → NoneBroken p (every p.body)
   unfolding refusal
-  unbroken h = body_sound p.body (none_broken p 1 (every p.body) (none_here 0 (declarations_rule p) (first_broken p 1 (every p.body)) h).1)
+  none_broken_here h = none_broken p 1 (every p.body) (none_here 0 (declarations_rule p) (first_broken p 1 (every p.body)) h).1
+
+  unbroken : refusal p ≡ None → AllSound p.body
+  unbroken h = body_sound p.body (none_broken_here h)
+
+  -- no statement of an accepted program shares a variable among its parts
+  pub none_shares : refusal p ≡ None → (s : Stmt) → Mem s (every p.body) → shares p (out-Stmt s) ≡ None
+  none_shares h s i = shares_none p s (one_unbroken p (every p.body) (none_broken_here h) s i)
 
   -- an accepted program fits
   pub all_fit : refusal p ≡ None → are_fit p p.body ≡ true

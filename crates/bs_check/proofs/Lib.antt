@@ -9,5 +9,8 @@ pub mod PartByPart
 pub mod Everything
 pub mod Verdict
 pub mod Fitness
+mod Owners
+mod Agreeing
+mod Overlaps
 pub mod Ends
 pub mod Standing

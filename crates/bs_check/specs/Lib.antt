@@ -11,3 +11,4 @@ pub mod Touches
 pub mod Walked
 pub mod Numbers
 pub mod Accepted
+pub mod Agreeing

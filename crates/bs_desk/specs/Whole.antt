@@ -27,14 +27,14 @@ pub record IsTooBig (name : List ℕ) (limit said : ℕ) (old new : Outside) : T
   pub told : IfSome old.files (λ files. (bytes : List ℕ) × (map.get files name ≡ Some bytes) × (limit < length bytes))
 
 -- `open` was refused, and nothing changed but its count; or it found the file, of which this many bytes were read at most
-abbrev pub Stopped : ℕ → Outside → Outside → Type 0
-Stopped limit old new = (new ≡ record old { read_faults = new.read_faults }) ⊎ ((new.found ≡ true) × (new.taken ≤ limit))
+abbrev pub IsPartlyRead : ℕ → Outside → Outside → Type 0
+IsPartlyRead limit old new = (new ≡ record old { read_faults = new.read_faults }) ⊎ ((new.found ≡ true) × (new.taken ≤ limit))
 
 -- a call of the desk failed before more than the limit was read
 pub record IsFailed (limit : ℕ) (old new : Outside) : Type 0 where
   pub can_fail : IsTrue old.can_fail
   pub rose : Rose old.read_faults new.read_faults
-  pub stopped : Stopped limit old new
+  pub stopped : IsPartlyRead limit old new
 
 -- by the answer of `read_all`: the whole file, or the refusal's cause
 abbrev pub Answers : List ℕ → ℕ → Outside → Outside → Result (Vec ℕ Global) ReadAllFault → Type 0
@@ -42,11 +42,11 @@ Answers name limit old new (Ok bytes) = IsWhole name limit old new bytes.items
 Answers name limit old new (Err fault.Failed) = IsFailed limit old new
 Answers name limit old new (Err fault.Missing) = Misses name old new
 Answers name limit old new (Err (fault.TooBig said)) = IsTooBig name limit said old new
-Answers name limit old new (Err fault.Memory) = Stopped (limit + 1) old new
+Answers name limit old new (Err fault.Memory) = IsPartlyRead (limit + 1) old new
 
--- a front of n bytes was written, and then the desk refused
+-- a front of n bytes was written, which isn't all, and then the desk refused
 pub record IsCut (port : Port) (bytes : List ℕ) (fault : DeskFault) (old new : Outside) (n : ℕ) : Type 0 where
-  pub fits : n ≤ length bytes
+  pub fits : n < length bytes
   pub same : new ≡ record (written port (take n bytes) old) { write_faults = new.write_faults }
   pub later : old.write_faults ≤ new.write_faults
   pub cause : fault ≡ desk.Failed → IsTrue old.can_fail × Rose old.write_faults new.write_faults

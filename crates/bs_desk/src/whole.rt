@@ -95,7 +95,7 @@ fn read_piece<D: Desk>(
 
 /// Writes all bytes to the port, each time offering the whole rest.
 ///
-/// After a refusal a front of the bytes was written. `Failed` comes only where the desk's count of
+/// After a refusal a front of the bytes was written, and not all of them. `Failed` comes only where the desk's count of
 /// write faults rose. The count of read faults is as before, with every answer.
 pub fn write_all<D: Desk>(desk: &mut D, port: Port, bytes: &[u8]) -> Result<(), DeskFault>
     requires { MayWrite port (D.world desk.old) }

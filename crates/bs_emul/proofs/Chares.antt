@@ -8,10 +8,12 @@ use Rattle.bs_log.specs.declared.history.Message.{Message}
 use Rattle.bs_log.specs.declared.history.Asked.{Asked}
 use Rattle.bs_log.specs.declared.history.History.{History}
 use Rattle.bs_log.specs.Size.{size}
+use Rattle.bs_log.specs.Lists.{Mem, Apart, Each}
+use Rattle.bs_log.specs.Messages.{one_asked, same_key, sends_of, sent}
 use Rattle.bs_match.specs.Mail.{lookup}
 use Rattle.bs_match.proofs.Keys.{same_key_is, same_key_refl}
 use Rattle.bs_semantics.specs.Run.{Lookup, history}
-use Rattle.bs_semantics.specs.Rounds.{Mem, Apart, Each, from_to, histories, mail_to, one_asked, same_key, sends_of, sent}
+use Rattle.bs_semantics.specs.Rounds.{from_to, histories, mail_to}
 use Rattle.bs_chare.specs.declared.chare.Chare.{Chare}
 use Rattle.bs_chare.specs.declared.fault.ChareFault.{ChareFault}
 use Rattle.bs_chare.specs.declared.fault.ChareFault.TheVariants.{TwoSent, TwoAsked, Long, Memory}

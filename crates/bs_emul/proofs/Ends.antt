@@ -7,8 +7,10 @@ use Rattle.bs_log.specs.declared.log.Log.{Log}
 use Rattle.bs_log.specs.ClosedTest.{LooksClosed}
 use Rattle.bs_log.specs.Collected.{log_of}
 use Rattle.bs_log.specs.Size.{size_all}
+use Rattle.bs_log.specs.Lists.{Apart, Each}
+use Rattle.bs_log.specs.Messages.{one_asked, sent}
 use Rattle.bs_match.specs.Mail.{lookup}
-use Rattle.bs_semantics.specs.Rounds.{Apart, Closed, Each, histories, mail_to, one_asked, round, sent}
+use Rattle.bs_semantics.specs.Rounds.{Closed, histories, mail_to, round}
 use Rattle.bs_semantics.specs.Starting.{AllIn}
 use Rattle.bs_semantics.specs.Run.{Lookup, history}
 use Rattle.bs_semantics.specs.Verdict.{Verdict, IsVerdict, clean, is_too_long, is_twice, is_clean}

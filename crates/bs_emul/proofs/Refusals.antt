@@ -3,8 +3,10 @@ use Rattle.std.proofs.Common.{◌≡◌, ◌⊎◌, ◌<◌, ◌≤◌, inl, inr
 use Rattle.bs_tree.specs.declared.tree.Program.{Program}
 use Rattle.bs_log.specs.declared.history.Message.{Message}
 use Rattle.bs_log.specs.Size.{size, size_all}
+use Rattle.bs_log.specs.Lists.{Mem, Apart, Each}
+use Rattle.bs_log.specs.Messages.{one_asked, one_key, sent}
 use Rattle.bs_semantics.specs.Run.{history}
-use Rattle.bs_semantics.specs.Rounds.{Mem, Apart, CleanAt, Closed, Each, chares, histories, one_asked, one_key, mail_to, sent, round}
+use Rattle.bs_semantics.specs.Rounds.{CleanAt, Closed, chares, histories, mail_to, round}
 use Rattle.bs_semantics.specs.Starting.{AllIn}
 use Rattle.bs_semantics.proofs.Chains.{closed_low}
 use Rattle.bs_semantics.proofs.ClosedSets.{any_order}

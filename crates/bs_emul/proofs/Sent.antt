@@ -5,18 +5,19 @@ use Rattle.bs_tree.specs.declared.tree.Program.{Program}
 use Rattle.bs_log.specs.declared.history.Message.{Message}
 use Rattle.bs_log.specs.declared.history.History.{History}
 use Rattle.bs_log.specs.Size.{size, size_all}
+use Rattle.bs_log.specs.Lists.{Mem, Each, InOrder}
+use Rattle.bs_log.specs.Messages.{sends_of, sent}
 use Rattle.bs_semantics.specs.Acts.{Parcel}
 use Rattle.bs_semantics.specs.Run.{Lookup, signed, history}
-use Rattle.bs_semantics.specs.Rounds.{Mem, Each, from_to, chares, histories, mail_to, sends_of, sent}
+use Rattle.bs_semantics.specs.Rounds.{from_to, chares, histories, mail_to}
 use Rattle.bs_semantics.specs.Growth.{Subsequence, none, keep, skip}
-use Rattle.bs_semantics.specs.Orderly.{InOrder}
 use Rattle.bs_semantics.proofs.Distinct.{Distinct}
 use Rattle.bs_semantics.proofs.Members.{mem_left, mem_cases}
 use Rattle.bs_semantics.proofs.Proper.{run_proper}
 use Rattle.bs_semantics.proofs.Sets.{under, from_block, into}
 use Rattle.bs_semantics.proofs.Signed.{run_signed}
 use Rattle.bs_semantics.proofs.Subsequences.{member, whole, longer}
-use Rattle.bs_rounds.proofs.Origins.{Differ, origins_differ}
+use Rattle.bs_rounds.proofs.OneOrigin.{Differ, origins_differ}
 
 -- ---- lists whose items differ
 

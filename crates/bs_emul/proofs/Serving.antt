@@ -3,8 +3,10 @@ use Rattle.std.proofs.Common.{◌≡◌, ◌⊎◌, ◌<◌, inl, inr, ℕ, ◌=
 use Rattle.std.proofs.lemmas.Bool.{eqb-false}
 use Rattle.bs_tree.specs.declared.tree.Program.{Program}
 use Rattle.bs_log.specs.declared.history.Message.{Message}
+use Rattle.bs_log.specs.Lists.{Mem}
+use Rattle.bs_log.specs.Messages.{is_for, one_key, same_key, sends_of, sent}
 use Rattle.bs_semantics.specs.Run.{Lookup, history}
-use Rattle.bs_semantics.specs.Rounds.{Mem, CleanAt, chares, histories, is_for, one_key, mail_to, same_key, sends_of, sent, round}
+use Rattle.bs_semantics.specs.Rounds.{CleanAt, chares, histories, mail_to, round}
 use Rattle.bs_semantics.specs.Growth.{PartOf, Subsequence}
 use Rattle.bs_semantics.specs.Starting.{AllIn}
 use Rattle.bs_semantics.proofs.Mails.{is_for_is, hits}

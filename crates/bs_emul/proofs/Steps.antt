@@ -4,9 +4,10 @@ use Rattle.std.proofs.lemmas.Cmp.{nat_eq_equiv}
 use Rattle.bs_tree.specs.declared.tree.Program.{Program}
 use Rattle.bs_log.specs.declared.history.Message.{Message}
 use Rattle.bs_log.specs.declared.history.History.{History}
+use Rattle.bs_log.specs.Messages.{same_key, sends_of}
 use Rattle.bs_match.specs.Mail.{lookup, with_message}
 use Rattle.bs_semantics.specs.Run.{Lookup, history}
-use Rattle.bs_semantics.specs.Rounds.{mail_to, same_key, sends_of}
+use Rattle.bs_semantics.specs.Rounds.{mail_to}
 use Rattle.bs_chare.specs.declared.chare.Chare.{Chare}
 use Rattle.bs_chare.specs.declared.fault.ChareFault.{ChareFault}
 use Rattle.bs_chare.specs.declared.fault.ChareFault.TheVariants.{TwoSent, TwoAsked, Long, Memory}

@@ -2,8 +2,9 @@
 use Rattle.std.specs.Prelude.{◌≡◌, ◌⊎◌, ℕ, List}
 use Rattle.bs_tree.specs.declared.tree.Program.{Program}
 use Rattle.bs_log.specs.declared.history.Message.{Message}
-use Rattle.bs_semantics.specs.Rounds.{Mem, Apart, CleanAt, one_key, sent, histories, round}
-use Rattle.bs_semantics.specs.Orderly.{InOrder}
+use Rattle.bs_log.specs.Lists.{Mem, Apart, InOrder}
+use Rattle.bs_log.specs.Messages.{one_key, sent}
+use Rattle.bs_semantics.specs.Rounds.{CleanAt, histories, round}
 use Rattle.bs_semantics.specs.Starting.{AllIn}
 
 -- these messages were served, the last one first, and those of the queue are left: together they are what the histories

@@ -34,6 +34,10 @@ module _ {S J I : Type 0} (g : Station.Ghosts S J I) where
     pub whole : g.places job ≡ length stations
     pub each : (k : ℕ) (s : S) → slice_get stations k ≡ Some s → (g.job s ≡ job) × (g.place s ≡ k) × g.sound job k s
 
+  -- the job of each of these stations is this one
+  abbrev pub HaveJob : J → List S → Type 0
+  HaveJob job stations = (k : ℕ) (s : S) → slice_get stations k ≡ Some s → g.job s ≡ job
+
   abbrev pub job_of : Setup S → J
   job_of setup = g.job setup.first.value
 

@@ -1,6 +1,6 @@
 // A station that counts down, with which the tests try a floor.
 ghost use Rattle.std.specs.Prelude.{◌≡◌, ◌<◌, refl};
-ghost use Rattle.bs_floor.specs.Countdown.{Countdown as Sum, next_sum, sends_of, IsSum};
+ghost use Rattle.bs_floor.specs.Countdown.{Countdown as Sum, next_sum, sends_of, IsFew, IsSum};
 ghost use Rattle.bs_floor.specs.CountdownLaws.{opens_with_sum, keeps_sum, sends_go_round};
 
 use crate::station::{Bound, Station};
@@ -10,7 +10,8 @@ use std::marker::Model;
 use std::sync::atomic::{AtomicU64, Ordering};
 
 /// A station whose state is the sum of the items that it served. An item above 0 goes on to the next
-/// place, less 1, and from the last place to the first.
+/// place, less 1, and from the last place to the first. An item fits that is at most twice the number of
+/// places, which is the job: so a floor must tell its job before anything can be posted.
 #[derive(Drop)]
 pub struct Countdown {
     alloc: Global,
@@ -66,7 +67,7 @@ impl Station for Countdown {
 
     ghost sound = { IsSum };
 
-    ghost fits = { λ _ _ _. Unit {0} };
+    ghost fits = { IsFew };
 
     fn serve(&mut self, item: &u64) -> Result<List<Bound<u64>>, AllocError> {
         let mut sends = List::new(self.alloc);
@@ -130,7 +131,7 @@ impl<'c> Station for Counted<'c> {
 
     ghost sound = { IsSum };
 
-    ghost fits = { λ _ _ _. Unit {0} };
+    ghost fits = { IsFew };
 
     fn serve(&mut self, item: &u64) -> Result<List<Bound<u64>>, AllocError> {
         let sends = self.countdown.serve(item)?;

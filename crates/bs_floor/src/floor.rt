@@ -1,7 +1,7 @@
 // The floor as threads share it.
 ghost use Rattle.std.specs.Prelude.{◌≡◌, ℕ, ◌+◌, ◌<◌, ◌≤◌, [], ◌∷◌, ◌++◌, All, IfOk, IfErr, None, Some, length, map, slice_get, vec_len, vec_capacity};
 ghost use Rattle.std.specs.Slots.{IsFull, slots_items, slots_len};
-ghost use Rattle.bs_floor.specs.History.{FormFloor};
+ghost use Rattle.bs_floor.specs.History.{FormFloor, HaveJob};
 ghost use Rattle.bs_floor.specs.SeatViews.{seat_view};
 ghost use Rattle.bs_floor.specs.Stations.{AllFit};
 ghost use Rattle.bs_floor.specs.Seats.{FloorValue, SeatValue, job_of, stations_of, station_count, seat_count, number_of, posts_of, serves_of, IsSeatOf, IsNewSeat, Posts, Serves, PostRefused, ServeRefused, AllSeats};
@@ -41,6 +41,7 @@ impl<S: Station> Floor<S> {
     ///
     /// There are 1 to 65,536 stations and 1 to 65 seats. The stations have one job and are as many as
     /// it has places, and each stands in the list at its own place, counted from 0, and is sound there.
+    /// That job is the floor's: what fits at a station by its job may be posted there.
     /// The only refusal is want of memory, which gives the stations up. The memory that `close` needs is
     /// taken here.
     pub fn new(
@@ -51,6 +52,8 @@ impl<S: Station> Floor<S> {
         requires stations { FormFloor S.Station stations.items }
         requires seats { (0 < seats) × (seats ≤ 65) }
         ensures stations { IfOk result (λ made. stations_of made.0 ≡ stations.items) }
+        ensures job { IfOk result (λ made. HaveJob S.Station (job_of S.Station made.0) stations.items) }
+        ensures places { IfOk result (λ made. S.places (job_of S.Station made.0) ≡ station_count made.0) }
         ensures seats { IfOk result (λ made. (seat_count made.0 ≡ seats) × (vec_len made.1 ≡ seats)) }
         ensures each { IfOk result (λ made. (k : ℕ) (seat : _) → slice_get made.1.items k ≡ Some seat → IsNewSeat made.0 k seat) }
     {

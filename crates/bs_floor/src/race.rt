@@ -1,7 +1,7 @@
 // Four threads that post and serve on one floor.
-ghost use Rattle.std.specs.Prelude.{◌≡◌, ◌<◌, IfOk, vec_len};
+ghost use Rattle.std.specs.Prelude.{◌≡◌, ◌<◌, IfOk, Some, slice_get, vec_len};
 ghost use Rattle.bs_floor.specs.History.{FormFloor};
-ghost use Rattle.bs_floor.specs.Seats.{IsSeatOf, station_count, seat_count, number_of};
+ghost use Rattle.bs_floor.specs.Seats.{IsSeatOf, job_of, station_count, seat_count, number_of};
 
 use crate::countdown::Countdown;
 use crate::{Bound, Closed, Floor, FloorSeat, OpenGate, PostFault, ServeFault, Station};
@@ -12,11 +12,15 @@ use std::thread::Threads;
 
 const STATIONS: u32 = 8;
 
+// The greatest item that fits.
+const MOST: u64 = 16;
+
 // How many passes a worker makes at most.
 const PASSES: u64 = 100_000_000;
 
 fn eight(alloc: Global) -> Result<Vec<Countdown>, AllocError>
-    ensures { IfOk result (λ v. FormFloor ⟦<Countdown as Station>⟧ v.items × (vec_len v ≡ 8)) }
+    ensures floor { IfOk result (λ v. FormFloor ⟦<Countdown as Station>⟧ v.items × (vec_len v ≡ 8)) }
+    ensures first { IfOk result (λ v. slice_get v.items 0 ≡ Some (0, 8, 0)) }
 {
     let mut stations = Vec::new(alloc);
     stations.push(Countdown::new(alloc, 0, 8))?;
@@ -69,13 +73,14 @@ fn post_all(
     seat: &mut FloorSeat<Countdown>,
     kept: &mut Vec<Kept>,
 ) -> Result<bool, AllocError>
-    requires { IsSeatOf floor.now seat.old × (station_count floor.now ≡ 8) }
+    requires seat { IsSeatOf floor.now seat.old × (station_count floor.now ≡ 8) }
+    requires job { job_of ⟦<Countdown as Station>⟧ floor.now ≡ 8 }
     ensures { IsSeatOf floor.now seat.new × (number_of seat.new ≡ number_of seat.old) }
 {
     let mut busy = Vec::new(alloc);
     let mut posted = false;
     for Kept { to, item } in kept.iter().copied() {
-        if to >= STATIONS {
+        if to >= STATIONS || item > MOST {
             continue;
         }
         match floor.post(seat, to, item) {
@@ -143,7 +148,8 @@ fn passes(
     seat: &mut FloorSeat<Countdown>,
     kept: &mut Vec<Kept>,
 ) -> Result<(), AllocError>
-    requires { IsSeatOf floor.now seat.old × (station_count floor.now ≡ 8) }
+    requires seat { IsSeatOf floor.now seat.old × (station_count floor.now ≡ 8) }
+    requires job { job_of ⟦<Countdown as Station>⟧ floor.now ≡ 8 }
     ensures { IsSeatOf floor.now seat.new × (number_of seat.new ≡ number_of seat.old) }
 {
     for _ in 0..PASSES {
@@ -163,7 +169,8 @@ fn work(
     seat: FloorSeat<Countdown>,
     kept: Vec<Kept>,
 ) -> (FloorSeat<Countdown>, Option<Vec<Kept>>)
-    requires { IsSeatOf floor.now seat × (station_count floor.now ≡ 8) }
+    requires seat { IsSeatOf floor.now seat × (station_count floor.now ≡ 8) }
+    requires job { job_of ⟦<Countdown as Station>⟧ floor.now ≡ 8 }
     ensures { IsSeatOf floor.now result.0 × (number_of result.0 ≡ number_of seat) }
 {
     let (mut seat, mut kept) = (seat, kept);
@@ -187,6 +194,7 @@ fn two_work<R: Threads>(
     requires first { IsSeatOf floor.now first.0 }
     requires second { IsSeatOf floor.now second.0 }
     requires stations { station_count floor.now ≡ 8 }
+    requires job { job_of ⟦<Countdown as Station>⟧ floor.now ≡ 8 }
     ensures first { IsSeatOf floor.now result.0.0 × (number_of result.0.0 ≡ number_of first.0) }
     ensures second { IsSeatOf floor.now result.1.0 × (number_of result.1.0 ≡ number_of second.0) }
 {
@@ -209,6 +217,7 @@ struct Four {
 // A floor of eight stations, and its four seats.
 fn four_seats(alloc: Global) -> Result<(Floor<Countdown>, Four), AllocError>
     ensures counts { IfOk result (λ r. (station_count r.0 ≡ 8) × (seat_count r.0 ≡ 4)) }
+    ensures job { IfOk result (λ r. job_of ⟦<Countdown as Station>⟧ r.0 ≡ 8) }
     ensures nought { IfOk result (λ r. IsSeatOf r.0 r.1.nought × (number_of r.1.nought ≡ 0)) }
     ensures one { IfOk result (λ r. IsSeatOf r.0 r.1.one × (number_of r.1.one ≡ 1)) }
     ensures two { IfOk result (λ r. IsSeatOf r.0 r.1.two × (number_of r.1.two ≡ 2)) }
@@ -238,6 +247,7 @@ fn race<R: Threads + Sync>(
     seats: Four,
 ) -> Result<Four, AllocError>
     requires stations { station_count floor.now ≡ 8 }
+    requires job { job_of ⟦<Countdown as Station>⟧ floor.now ≡ 8 }
     requires nought { IsSeatOf floor.now seats.nought × (number_of seats.nought ≡ 0) }
     requires one { IsSeatOf floor.now seats.one × (number_of seats.one ≡ 1) }
     requires two { IsSeatOf floor.now seats.two × (number_of seats.two ≡ 2) }
@@ -270,6 +280,7 @@ fn race<R: Threads + Sync>(
 // The same items by one seat.
 fn alone(alloc: Global, floor: &Floor<Countdown>, seats: Four) -> Result<Four, AllocError>
     requires stations { station_count floor.now ≡ 8 }
+    requires job { job_of ⟦<Countdown as Station>⟧ floor.now ≡ 8 }
     requires nought { IsSeatOf floor.now seats.nought × (number_of seats.nought ≡ 0) }
     requires one { IsSeatOf floor.now seats.one × (number_of seats.one ≡ 1) }
     requires two { IsSeatOf floor.now seats.two × (number_of seats.two ≡ 2) }

@@ -1,6 +1,6 @@
-ghost use Rattle.std.specs.Prelude.{◌≡◌, ◌<◌, IfOk, vec_len};
-ghost use Rattle.bs_floor.specs.History.{FormFloor};
-ghost use Rattle.bs_floor.specs.Seats.{IsSeatOf, station_count, seat_count, number_of};
+ghost use Rattle.std.specs.Prelude.{◌≡◌, ◌<◌, IfOk, Some, slice_get, vec_len};
+ghost use Rattle.bs_floor.specs.History.{FormFloor, HaveJob};
+ghost use Rattle.bs_floor.specs.Seats.{IsSeatOf, job_of, station_count, seat_count, number_of};
 
 use crate::countdown::{Countdown, Counted};
 use crate::{Closed, Floor, FloorSeat, Gate, OpenGate, PostFault, ServeFault, Served, Station};
@@ -14,7 +14,8 @@ use std::thread::Threads;
 const LOOKS: u64 = 100_000_000;
 
 fn three(alloc: Global) -> Result<Vec<Countdown>, AllocError>
-    ensures { IfOk result (λ v. FormFloor ⟦<Countdown as Station>⟧ v.items × (vec_len v ≡ 3)) }
+    ensures floor { IfOk result (λ v. FormFloor ⟦<Countdown as Station>⟧ v.items × (vec_len v ≡ 3)) }
+    ensures first { IfOk result (λ v. slice_get v.items 0 ≡ Some (0, 3, 0)) }
 {
     let mut stations = Vec::new(alloc);
     stations.push(Countdown::new(alloc, 0, 3))?;
@@ -30,6 +31,7 @@ fn two_seats<S: Station>(
 ) -> Result<(Floor<S>, FloorSeat<S>, FloorSeat<S>), AllocError>
     requires { FormFloor S.Station stations.items }
     ensures counts { IfOk result (λ r. (station_count r.0 ≡ vec_len stations) × (seat_count r.0 ≡ 2)) }
+    ensures job { IfOk result (λ r. HaveJob S.Station (job_of S.Station r.0) stations.items) }
     ensures nought { IfOk result (λ r. IsSeatOf r.0 r.1 × (number_of r.1 ≡ 0)) }
     ensures one { IfOk result (λ r. IsSeatOf r.0 r.2 × (number_of r.2 ≡ 1)) }
 {
@@ -37,6 +39,18 @@ fn two_seats<S: Station>(
     let one = seats.remove(1);
     let nought = seats.remove(0);
     Ok((floor, nought, one))
+}
+
+// Three stations that count down, and two seats. An item of at most 6 fits.
+fn counting(
+    alloc: Global,
+) -> Result<(Floor<Countdown>, FloorSeat<Countdown>, FloorSeat<Countdown>), AllocError>
+    ensures counts { IfOk result (λ r. (station_count r.0 ≡ 3) × (seat_count r.0 ≡ 2)) }
+    ensures job { IfOk result (λ r. job_of ⟦<Countdown as Station>⟧ r.0 ≡ 3) }
+    ensures nought { IfOk result (λ r. IsSeatOf r.0 r.1 × (number_of r.1 ≡ 0)) }
+    ensures one { IfOk result (λ r. IsSeatOf r.0 r.2 × (number_of r.2 ≡ 1)) }
+{
+    two_seats(alloc, three(alloc)?)
 }
 
 // Whether this was served with this number, and sent that one item, or none.
@@ -77,7 +91,7 @@ fn closed(
 #[test]
 fn counts_down_by_two_seats(rt: HostRuntime) -> Result<(), Fail> {
     let alloc = rt.alloc();
-    let (floor, mut nought, mut one) = two_seats(alloc, three(alloc)?)?;
+    let (floor, mut nought, mut one) = counting(alloc)?;
     assert!(rt; nought.number() == 0 && one.number() == 1);
     assert!(rt; floor.post(&mut nought, 0, 2).is_ok_and(|n| n == 0));
     assert!(rt; is_served(floor.serve(&mut one, 0, &OpenGate), 0, Some((1, 1))));
@@ -156,7 +170,8 @@ fn post_there(
     mut seat: FloorSeat<Countdown>,
     gate: &Flags,
 ) -> (FloorSeat<Countdown>, bool)
-    requires { IsSeatOf floor.now seat × (0 < station_count floor.now) }
+    requires seat { IsSeatOf floor.now seat × (0 < station_count floor.now) }
+    requires job { job_of ⟦<Countdown as Station>⟧ floor.now ≡ 3 }
     ensures { IsSeatOf floor.now result.0 × (number_of result.0 ≡ number_of seat) }
 {
     wait_for(&gate.raised);
@@ -171,7 +186,7 @@ fn post_there(
 #[test]
 fn a_held_station_is_busy(rt: HostRuntime) -> Result<(), Fail> {
     let alloc = rt.alloc();
-    let (floor, mut nought, one) = two_seats(alloc, three(alloc)?)?;
+    let (floor, mut nought, one) = counting(alloc)?;
     assert!(rt; floor.post(&mut nought, 0, 4).is_ok());
     let gate = Flags {
         raised: AtomicU64::new(0),
@@ -190,12 +205,33 @@ fn a_held_station_is_busy(rt: HostRuntime) -> Result<(), Fail> {
 
 // Stations whose type refers to a word that all of them share.
 fn two_counted<'c>(alloc: Global, served: &'c AtomicU64) -> Result<Vec<Counted<'c>>, AllocError>
-    ensures { IfOk result (λ v. FormFloor ⟦<Counted<'c> as Station>⟧ v.items × (vec_len v ≡ 2)) }
+    ensures floor { IfOk result (λ v. FormFloor ⟦<Counted<'c> as Station>⟧ v.items × (vec_len v ≡ 2)) }
+    ensures first { IfOk result (λ v. slice_get v.items 0 ≡ Some (0, 2, 0)) }
 {
     let mut stations = Vec::new(alloc);
     stations.push(Counted::new(Countdown::new(alloc, 0, 2), served))?;
     stations.push(Counted::new(Countdown::new(alloc, 1, 2), served))?;
     Ok(stations)
+}
+
+// Two of them, and two seats. An item of at most 4 fits.
+fn sharing<'c>(
+    alloc: Global,
+    served: &'c AtomicU64,
+) -> Result<
+    (
+        Floor<Counted<'c>>,
+        FloorSeat<Counted<'c>>,
+        FloorSeat<Counted<'c>>,
+    ),
+    AllocError,
+>
+    ensures counts { IfOk result (λ r. (station_count r.0 ≡ 2) × (seat_count r.0 ≡ 2)) }
+    ensures job { IfOk result (λ r. job_of ⟦<Counted<'c> as Station>⟧ r.0 ≡ 2) }
+    ensures nought { IfOk result (λ r. IsSeatOf r.0 r.1 × (number_of r.1 ≡ 0)) }
+    ensures one { IfOk result (λ r. IsSeatOf r.0 r.2 × (number_of r.2 ≡ 1)) }
+{
+    two_seats(alloc, two_counted(alloc, served)?)
 }
 
 fn serve_one<S: Station>(floor: &Floor<S>, mut seat: FloorSeat<S>, at: u32) -> bool
@@ -228,7 +264,7 @@ where
 fn a_station_may_hold_references(rt: HostRuntime) -> Result<(), Fail> {
     let alloc = rt.alloc();
     let served = AtomicU64::new(0);
-    let (floor, mut nought, mut one) = two_seats(alloc, two_counted(alloc, &served)?)?;
+    let (floor, mut nought, mut one) = sharing(alloc, &served)?;
     assert!(rt; floor.post(&mut nought, 0, 3).is_ok());
     assert!(rt; floor.post(&mut one, 1, 4).is_ok());
     let answers = both_serve(&rt, &floor, nought, one);

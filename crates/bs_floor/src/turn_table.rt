@@ -2,7 +2,7 @@
 // P + k counts the items posted there, and word P + P + k those that are served. Slot k is the cell.
 ghost use Rattle.std.specs.Prelude.{◌≡◌, ℕ, suc, ◌+◌, ◌^◌, ◌<◌, ◌≤◌, [], ◌∷◌, ◌++◌, IfOk, IfErr, OnErr, None, Some, map, length, slice_get, vec_capacity};
 ghost use Rattle.bs_floor.specs.SeatViews.{Sized, first_view, turn_at, with_held};
-ghost use Rattle.bs_floor.specs.History.{FormFloor, fresh_cell, job_of, with_item};
+ghost use Rattle.bs_floor.specs.History.{FormFloor, HaveJob, fresh_cell, job_of, with_item};
 ghost use Rattle.bs_floor.specs.SeatSteps.{GetsTurn, FindsHeld, with_post};
 ghost use Rattle.bs_floor.specs.Hands.{HasInHand, HasStation, HasLooked, HasPosted, HasServed, HoldsNothing, ServedInHand, HasServeFault};
 
@@ -47,6 +47,7 @@ fn setup_of<S: Station>(stations: &Vec<S>, seats: u32) -> Setup<S>
     requires { FormFloor S.Station stations.now.items }
     ensures all { (result.stations.value ≡ stations.now) × (result.seats ≡ seats) }
     ensures first { slice_get stations.now.items 0 ≡ Some result.first.value }
+    ensures job { HaveJob S.Station (job_of S.Station result) stations.now.items }
     ensures places { S.places (job_of S.Station result) ≡ length stations.now.items }
 {
     Setup {
@@ -68,6 +69,7 @@ impl<S: Station> TurnTable<S> {
         ensures setup { IfOk result (λ r. (r.0.table.shared.key.stations.value ≡ stations) × (r.0.table.shared.key.seats ≡ seats)) }
         ensures room { IfOk result (λ r. (r.0.room.items ≡ []) × (length stations.items ≤ vec_capacity r.0.room)) }
         ensures places { IfOk result (λ r. S.places (job_of S.Station r.0.table.shared.key) ≡ length stations.items) }
+        ensures job { IfOk result (λ r. HaveJob S.Station (job_of S.Station r.0.table.shared.key) stations.items) }
         ensures few { IfOk result (λ r. (0 < length stations.items) × (length stations.items ≤ 65536)) }
         ensures seat { IfOk result (λ r. (r.1.table_id ≡ r.0.table.shared.table_id) × (r.1.me ≡ (first_view r.0.table.shared.key, []))) }
     {

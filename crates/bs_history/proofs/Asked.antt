@@ -4,7 +4,7 @@ use Rattle.std.proofs.lemmas.List.Elements.{All-head}
 use Rattle.bs_tree.specs.declared.tree.Wait.{Wait}
 use Rattle.bs_log.specs.declared.history.Key.{Key}
 use Rattle.bs_log.specs.declared.history.Message.{Message}
-use Rattle.bs_semantics.specs.Rounds.{same_key}
+use Rattle.bs_log.specs.Messages.{same_key}
 use Rattle.bs_semantics.specs.Run.{Lookup, State as PlainState, ask, go_on, all_asked, all_waits, missing, held, held_and, take_mail, took, with_mail, depth_of}
 use Rattle.bs_semantics.proofs.CauseDepths.{depth_in, with_mail_depth}
 use Rattle.bs_match.specs.Mail.{lookup}

@@ -6,7 +6,7 @@ ghost use Rattle.bs_semantics.specs.Run.{depth_of, greatest, no_causes, union, w
 ghost use Rattle.bs_history.specs.Causes.{cause_of};
 
 use crate::ordered::{Ordered, put_items};
-use bs_log::{Message, Origin};
+use bs_log::{Message, Origin, copy_origins, copy_path};
 use bs_tree::{List, Path};
 use std::alloc::{AllocError, Global};
 use std::cmp::Ordering;
@@ -91,7 +91,7 @@ impl Causes {
         ensures { IfOk result (λ causes. causes ≡ self.now) }
     {
         let after = copy_causes(alloc, self.after.as_slice())?;
-        let mail = copy_origins(alloc, self.mail.as_slice())?;
+        let mail = copy_origins(alloc, self.mail.as_slice())?.into_vec();
         Ok(Causes { after, mail })
     }
 
@@ -191,34 +191,4 @@ fn copy_causes(alloc: Global, causes: &[Cause]) -> Result<Vec<Cause>, AllocError
         })?;
     }
     Ok(copy)
-}
-
-pub(crate) fn copy_origins(alloc: Global, origins: &[Origin]) -> Result<Vec<Origin>, AllocError>
-    ensures { IfOk result (λ copy. copy.items ≡ origins.now) }
-{
-    let mut copy = Vec::new(alloc);
-    for origin in origins {
-        copy.push(copy_origin(alloc, origin)?)?;
-    }
-    Ok(copy)
-}
-
-pub(crate) fn copy_origin(alloc: Global, origin: &Origin) -> Result<Origin, AllocError>
-    ensures { IfOk result (λ copy. copy ≡ origin.now) }
-{
-    let path = copy_path(alloc, &origin.path)?;
-    Ok(Origin {
-        chare: origin.chare,
-        path,
-        index: origin.index,
-        depth: origin.depth,
-    })
-}
-
-// An equal path.
-pub(crate) fn copy_path(alloc: Global, path: &Path) -> Result<Path, AllocError>
-    ensures { IfOk result (λ copy. copy ≡ path.now) }
-{
-    let places = Vec::from_slice(alloc, path.0.as_slice())?;
-    Ok(Path(List::from_vec(places)))
 }

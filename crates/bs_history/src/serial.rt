@@ -8,12 +8,12 @@ ghost use Rattle.bs_history.specs.Ground.{IsReady, Runs, program_of, state_of};
 ghost use Rattle.bs_history.specs.Serial.{made_from};
 ghost use Rattle.bs_history.specs.Trail.{IsWithin, Writes, a_block};
 
-use crate::causes::{Causes, copy_path};
+use crate::causes::Causes;
 use crate::fault::HistoryFault;
 use crate::ground::{Ground, State};
 use crate::trail::Trail;
 use bs_block::{BlockDone, BlockFault, Send, run_block};
-use bs_log::{Block, Message, Origin};
+use bs_log::{Block, Message, Origin, copy_path};
 use bs_tree::{Act, List, Path};
 use std::alloc::{AllocError, Global};
 

@@ -8,14 +8,13 @@ ghost use Rattle.bs_history.specs.Ground.{IsReady, Steps, mail_of, program_of, s
 ghost use Rattle.bs_history.specs.Trail.{IsWithin, Writes};
 ghost use Rattle.bs_history.specs.Waiting.{AreHeld, AreKeys, all_keys_asked, all_keys_missing};
 
-use crate::causes::copy_origin;
 use crate::control::scalar_cell;
 use crate::fault::HistoryFault;
 use crate::ground::{Ground, State};
 use crate::trail::Trail;
 use bs_block::{BlockFault, Env, eval};
 use bs_check::{Accepted, Kind};
-use bs_log::{Key, Message};
+use bs_log::{Key, Message, copy_message};
 use bs_tree::{List, NameId, Wait};
 use std::alloc::{AllocError, Global};
 
@@ -142,18 +141,6 @@ fn held_messages(ground: &Ground, keys: &[Key]) -> Result<Option<List<Message>>,
         }
     }
     Ok(Some(messages))
-}
-
-fn copy_message(alloc: Global, message: &Message) -> Result<Message, AllocError>
-    ensures { IfOk result (λ copy. copy ≡ message.now) }
-{
-    let origin = copy_origin(alloc, &message.origin)?;
-    let args = List::from_vec(Vec::from_slice(alloc, message.args.as_slice())?);
-    Ok(Message {
-        origin,
-        sent: message.sent,
-        args,
-    })
 }
 
 // Gives the arguments of each message to the parameters of its wait.

@@ -2,7 +2,7 @@
 use Rattle.std.proofs.Common.{◌≡◌, ◌≢◌, ◌⊎◌, inl, inr, cond, List, [], ◌∷◌, refl, sym, ap, subst}
 use Rattle.std.proofs.lemmas.Bool.{cases_eq, eq-eqb, ne_eqb}
 use Rattle.bs_log.specs.declared.log.MailRef.{MailRef}
-use Rattle.bs_log.specs.ClosedTest.{Mem}
+use Rattle.bs_log.specs.Lists.{Mem}
 use Rattle.bs_times.specs.Net.{Net, Ticks}
 use Rattle.bs_times.proofs.Members.{mem_cases, mem_left, mem_right}
 use Rattle.bs_line.specs.declared.corrections.Correction.{Correction}

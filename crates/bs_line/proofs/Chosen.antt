@@ -3,7 +3,7 @@ use Rattle.std.proofs.Common.{◌≡◌, ◌≤◌, ◌<◌, ◌+◌, ◌⊎◌,
 use Rattle.std.proofs.lemmas.Bool.{cases_eq, cases_lt, eq-eqb, ne_eqb}
 use Rattle.bs_log.specs.declared.log.MailRef.{MailRef}
 use Rattle.bs_log.specs.declared.log.Log.{Log}
-use Rattle.bs_log.specs.ClosedTest.{Mem, InOrder}
+use Rattle.bs_log.specs.Lists.{Mem, InOrder}
 use Rattle.bs_semantics.specs.Serial.{Machine}
 use Rattle.bs_times.specs.Net.{Net, HasRow, net_of, no_row, row_of}
 use Rattle.bs_times.specs.Times.{IsListed, IsOn}

@@ -8,8 +8,8 @@ use Rattle.std.specs.List.Sorted.{IsStrictlySortedBy}
 use Rattle.std.proofs.lemmas.Bool.{cases_order, lt-ltb, le-ltb, eq-eqb, ne_eqb, cond-true, cond-false}
 use Rattle.std.proofs.lemmas.List.{take_more}
 use Rattle.bs_log.specs.declared.log.MailRef.{MailRef}
-use Rattle.bs_log.specs.ClosedTest.{Mem, InOrder}
 use Rattle.bs_log.specs.Rising.{IsLower}
+use Rattle.bs_log.specs.Lists.{Mem, InOrder}
 use Rattle.bs_times.proofs.Members.{map_mem, mem_cases, mem_left, mem_map, mem_right}
 use Rattle.bs_line.specs.Listing.{HasAdded, keyed}
 use Rattle.bs_line.specs.Places.{AreMails}

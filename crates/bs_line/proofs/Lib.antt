@@ -2,7 +2,6 @@ pub mod Ordered
 mod Counted
 mod Rows
 mod Tables
-pub mod Numbered
 mod Parts
 pub mod Kept
 pub mod Keys

@@ -2,8 +2,8 @@
 use Rattle.std.proofs.Common.{◌≡◌, ◌≤◌, ◌<◌, ◌⊎◌, inl, inr, ◌==◌, ℕ, zero, suc, Bool, true, false, if◌then◌else◌, List, [], ◌∷◌, length, get_or, refl, sym, ap, subst, ◌∙◌, arith}
 use Rattle.std.proofs.lemmas.Bool.{cases_lt, cases_order, eq-eqb, eqb-true, true≢false, and_from, and_parts}
 use Rattle.bs_log.specs.declared.log.MailRef.{MailRef}
-use Rattle.bs_log.specs.ClosedTest.{Mem, InOrder}
 use Rattle.bs_log.specs.Rising.{IsLower}
+use Rattle.bs_log.specs.Lists.{Mem, InOrder}
 use Rattle.bs_schedule.proofs.Places.{place_mem}
 use Rattle.bs_times.specs.Racing.{same_mail}
 use Rattle.bs_line.specs.Places.{AreMails, place_in}

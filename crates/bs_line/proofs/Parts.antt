@@ -5,8 +5,8 @@ use Rattle.std.proofs.lemmas.List.{drop_more, get_or-map, length-map}
 use Rattle.std.proofs.Math.ListN.{get_or-eq_default}
 use Rattle.bs_log.specs.declared.log.MailRef.{MailRef}
 use Rattle.bs_log.specs.declared.log.Log.{Log}
-use Rattle.bs_log.specs.ClosedTest.{Mem, InOrder}
 use Rattle.bs_log.specs.Valid.{IsValid}
+use Rattle.bs_log.specs.Lists.{Mem, InOrder}
 use Rattle.bs_machine.specs.declared.fitted.Fitted.{Fitted}
 use Rattle.bs_schedule.specs.declared.plan.Cause.{Cause}
 use Rattle.bs_schedule.specs.Plan.{AreRows, at}
@@ -19,9 +19,10 @@ use Rattle.bs_times.proofs.Found.{row_fits}
 use Rattle.bs_times.proofs.Members.{map_mem}
 use Rattle.bs_line.specs.declared.layout.Out.{Out}
 use Rattle.bs_line.specs.declared.making.Estimate.{Estimate}
-use Rattle.bs_line.specs.Layout.{local_cause, local_causes, net_on, number_on, out_of}
-use Rattle.bs_line.specs.Making.{AreComing, AreGoing, AreRowsOn, IsSend, mails_of, ticks_of}
-use Rattle.bs_line.proofs.Numbered.{mail_sent, rows_few}
+use Rattle.bs_rows.specs.Rows.{net_on, IsSend}
+use Rattle.bs_rows.proofs.Numbered.{mail_sent, rows_few}
+use Rattle.bs_line.specs.Layout.{local_cause, local_causes, number_on, out_of}
+use Rattle.bs_line.specs.Making.{AreComing, AreGoing, AreRowsOn, mails_of, ticks_of}
 use Rattle.bs_line.proofs.Ordered.{place_found, row_tests}
 use Rattle.bs_line.proofs.Rows.{numbered, row_on}
 

@@ -2,7 +2,7 @@
 use Rattle.std.proofs.Common.{◌≡◌, ◌<◌, inl, inr, ◌==◌, ℕ, zero, suc, List, [], ◌∷◌, length, get_or, map, refl, sym, ap, subst, ◌∙◌, arith}
 use Rattle.std.proofs.lemmas.List.{get_or-map, length-map}
 use Rattle.bs_log.specs.declared.log.MailRef.{MailRef}
-use Rattle.bs_log.specs.ClosedTest.{Mem, InOrder}
+use Rattle.bs_log.specs.Lists.{Mem, InOrder}
 use Rattle.bs_times.specs.Net.{Net, Causal}
 use Rattle.bs_times.specs.Times.{IsOn, greatest}
 use Rattle.bs_times.proofs.Members.{map_mem}

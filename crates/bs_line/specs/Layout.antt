@@ -2,10 +2,7 @@
 -- (docs/model.md).
 use Rattle.std.specs.Prelude.{◌≡◌, ℕ, suc, List, [], ◌∷◌, map}
 use Rattle.bs_log.specs.declared.log.MailRef.{MailRef}
-use Rattle.bs_log.specs.declared.log.Log.{Log}
-use Rattle.bs_machine.specs.declared.fitted.Fitted.{Fitted}
-use Rattle.bs_times.specs.Machine.{machine_of}
-use Rattle.bs_times.specs.Net.{Net, net_of}
+use Rattle.bs_times.specs.Net.{Net}
 use Rattle.bs_times.specs.Times.{IsListed, IsOn}
 use Rattle.bs_schedule.specs.declared.plan.Cause.{Cause}
 use Rattle.bs_schedule.specs.declared.plan.Plan.{Plan}
@@ -13,10 +10,6 @@ use Rattle.bs_schedule.specs.Plan.{IsPlan}
 use Rattle.bs_line.specs.declared.layout.Out.{Out}
 use Rattle.bs_line.specs.declared.layout.Layout.{Layout}
 use Rattle.bs_line.specs.Places.{AreMails, AreThose, mail_place, row_place}
-
--- the net of a log on a fitted machine
-abbrev pub net_on : Log → Fitted → Net
-net_on log machine = net_of log (machine_of machine)
 
 -- a listed message that comes to processor p
 abbrev pub ComesTo : Net → ℕ → MailRef → Type 0

@@ -11,7 +11,8 @@ use Rattle.bs_line.specs.declared.corrections.Correction.{Correction}
 use Rattle.bs_line.specs.declared.line.Line.{Line}
 use Rattle.bs_line.specs.declared.line.Differs.{Differs}
 use Rattle.bs_line.specs.Places.{differing, mail_place}
-use Rattle.bs_line.specs.Layout.{ComesTo, IsLayout, net_on, number_on, sends_of}
+use Rattle.bs_rows.specs.Rows.{net_on}
+use Rattle.bs_line.specs.Layout.{ComesTo, IsLayout, number_on, sends_of}
 
 -- the net of the line's log on its machine
 abbrev pub net_at : Line → Net

@@ -1,7 +1,7 @@
 -- Messages as keys of an ordered set, and rows one after another.
 use Rattle.std.specs.Prelude.{◌↔◌, ◌⊎◌, ℕ, Bool, if◌then◌else◌, List, [], ◌∷◌}
 use Rattle.bs_log.specs.declared.log.MailRef.{MailRef}
-use Rattle.bs_log.specs.ClosedTest.{Mem}
+use Rattle.bs_log.specs.Lists.{Mem}
 
 abbrev pub keyed : MailRef → ℕ × ℕ
 keyed m = (m.row, m.index)

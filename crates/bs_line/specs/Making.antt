@@ -1,5 +1,5 @@
 -- What a line is made of: rows, and messages with the ticks at which they are thought to arrive.
-use Rattle.std.specs.Prelude.{◌≡◌, ◌≤◌, ℕ, Bool, if◌then◌else◌, List, [], ◌∷◌, map, length}
+use Rattle.std.specs.Prelude.{◌≡◌, ℕ, Bool, if◌then◌else◌, List, [], ◌∷◌, map, length}
 use Rattle.bs_log.specs.declared.log.MailRef.{MailRef}
 use Rattle.bs_log.specs.declared.log.Log.{Log}
 use Rattle.bs_num.specs.declared.ticks.Tick.{Tick}
@@ -8,13 +8,6 @@ use Rattle.bs_times.specs.Times.{IsListed, IsOn}
 use Rattle.bs_line.specs.declared.making.Estimate.{Estimate}
 use Rattle.bs_line.specs.Layout.{ComesTo, GoesFrom}
 use Rattle.bs_line.specs.Places.{AreMails, AreThose, mail_place}
-
--- the row and the send of a message are there
-pub record IsSend (log : Log) (m : MailRef) : Type 0 where
-  pub row_some : 1 ≤ m.row
-  pub row_most : m.row ≤ length log.rows
-  pub index_some : 1 ≤ m.index
-  pub index_most : m.index ≤ length (row_of log m.row).sends
 
 abbrev pub mails_of : List Estimate → List MailRef
 mails_of es = map (λ e. e.mail) es

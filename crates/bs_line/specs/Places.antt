@@ -1,8 +1,8 @@
 -- Places in lists of rows and of messages, and how many places of two lists differ.
 use Rattle.std.specs.Prelude.{◌<◌, ◌+◌, ◌==◌, ℕ, suc, Bool, if◌then◌else◌, List, [], ◌∷◌, ◌↔◌}
 use Rattle.bs_log.specs.declared.log.MailRef.{MailRef}
-use Rattle.bs_log.specs.ClosedTest.{Mem, InOrder}
 use Rattle.bs_log.specs.Rising.{IsLower}
+use Rattle.bs_log.specs.Lists.{Mem, InOrder}
 use Rattle.bs_times.specs.Racing.{same_mail}
 
 -- the first place of an item, or how many items there are where it isn't among them

@@ -1,21 +1,21 @@
 // The rows of a processor, and the listed messages that come to it or go from it.
 ghost use Rattle.std.specs.Prelude.{◌≡◌, ◌++◌, ◌==◌, IfOk, OnOk, length};
 ghost use Rattle.bs_log.specs.Valid.{IsValid};
-ghost use Rattle.bs_log.specs.ClosedTest.{Mem};
+ghost use Rattle.bs_log.specs.Lists.{Mem};
 ghost use Rattle.bs_log.specs.declared.log.MailRef.{MailRef as Mail};
 ghost use Rattle.bs_semantics.specs.Serial.{Machine};
 ghost use Rattle.bs_times.specs.Net.{net_of};
 ghost use Rattle.bs_times.specs.Times.{IsListed, IsOn};
-ghost use Rattle.bs_line.specs.Layout.{net_on};
+ghost use Rattle.bs_rows.specs.Rows.{net_on, IsSend};
 ghost use Rattle.bs_line.specs.Listing.{HasAdded, keyed, row_if};
-ghost use Rattle.bs_line.specs.Making.{IsSend, kept, kept_one};
+ghost use Rattle.bs_line.specs.Making.{kept, kept_one};
 ghost use Rattle.bs_line.specs.Places.{AreMails, AreThose};
 
-use crate::finding::{count, goes_to, home};
 use crate::making::Estimate;
 use bs_log::{Log, MailRef};
 use bs_machine::Fitted;
 use bs_num::Tick;
+use bs_rows::{count, goes_to, home};
 use bs_tree::List;
 use std::alloc::{AllocError, Global};
 use std::collections::BTreeSet;

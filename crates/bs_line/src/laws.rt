@@ -1,6 +1,6 @@
 // Laws of corrections.
 ghost use Rattle.std.specs.Prelude.{◌≡◌, ◌≢◌, List};
-ghost use Rattle.bs_log.specs.ClosedTest.{Mem};
+ghost use Rattle.bs_log.specs.Lists.{Mem};
 ghost use Rattle.bs_log.specs.declared.log.MailRef.{MailRef};
 ghost use Rattle.bs_times.specs.Net.{Net, Ticks};
 ghost use Rattle.bs_line.specs.declared.corrections.Correction.{Correction};

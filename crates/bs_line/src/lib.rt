@@ -8,7 +8,6 @@
 mod bases;
 mod choosing;
 mod corrections;
-pub mod finding;
 pub mod laws;
 mod layout;
 mod line;

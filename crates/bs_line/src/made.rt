@@ -1,12 +1,13 @@
 // How lines are made.
 ghost use Rattle.std.specs.Prelude.{◌≡◌, ◌<◌, ◌^◌, IfOk, false};
-ghost use Rattle.bs_log.specs.ClosedTest.{Mem};
 ghost use Rattle.bs_log.specs.Valid.{IsValid};
+ghost use Rattle.bs_log.specs.Lists.{Mem};
 ghost use Rattle.bs_log.specs.declared.log.MailRef.{MailRef as Mail};
 ghost use Rattle.bs_times.specs.Times.{IsListed, IsOn};
 ghost use Rattle.bs_schedule.specs.Plan.{at};
 ghost use Rattle.bs_line.specs.declared.making.Estimate.{Estimate as Thought};
-ghost use Rattle.bs_line.specs.Layout.{ComesTo, GoesFrom, net_on, sends_of};
+ghost use Rattle.bs_rows.specs.Rows.{net_on};
+ghost use Rattle.bs_line.specs.Layout.{ComesTo, GoesFrom, sends_of};
 ghost use Rattle.bs_line.specs.Line.{IsReady, given_of, held_of};
 ghost use Rattle.bs_line.specs.Making.{AreEstimates, mails_of, numbers, ticks_of};
 ghost use Rattle.bs_line.specs.Places.{AreMails, AreThose, mail_place};

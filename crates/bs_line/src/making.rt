@@ -1,17 +1,18 @@
 // What a line is made of.
 ghost use Rattle.std.specs.Prelude.{◌≡◌, ◌∷◌, [], IfOk, map};
-ghost use Rattle.bs_log.specs.ClosedTest.{Mem};
 ghost use Rattle.bs_log.specs.Valid.{IsValid};
+ghost use Rattle.bs_log.specs.Lists.{Mem};
 ghost use Rattle.bs_machine.specs.declared.fitted.Fitted.{Fitted};
-ghost use Rattle.bs_line.specs.Layout.{local_cause as local_cause_of, local_causes, net_on, out_of};
-ghost use Rattle.bs_line.specs.Making.{AreComing, AreGoing, AreRowsOn, IsSend, mails_of, places_of, ticks_of};
+ghost use Rattle.bs_rows.specs.Rows.{net_on, IsSend};
+ghost use Rattle.bs_line.specs.Layout.{local_cause as local_cause_of, local_causes, out_of};
+ghost use Rattle.bs_line.specs.Making.{AreComing, AreGoing, AreRowsOn, mails_of, places_of, ticks_of};
 
-use crate::finding::{duration, goes_to, row_at, travel};
 use crate::layout::Out;
 use crate::places::{mail_place, row_place};
 use bs_log::{Log, MailRef};
 use bs_machine::Fitted;
 use bs_num::Tick;
+use bs_rows::{duration, goes_to, row_at, travel};
 use bs_schedule::Cause;
 use bs_tree::List;
 use std::alloc::{AllocError, Global};

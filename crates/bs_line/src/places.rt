@@ -1,7 +1,7 @@
 // Places of rows and messages in lists that rise.
 ghost use Rattle.std.specs.Prelude.{◌≡◌, ◌<◌, false, length, true};
-ghost use Rattle.bs_log.specs.ClosedTest.{Mem, InOrder};
 ghost use Rattle.bs_log.specs.Rising.{IsLower};
+ghost use Rattle.bs_log.specs.Lists.{Mem, InOrder};
 ghost use Rattle.bs_line.specs.Places.{mail_place as mail_place_of, row_place as row_place_of};
 
 use bs_log::MailRef;

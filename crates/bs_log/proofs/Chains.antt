@@ -3,8 +3,8 @@ use Rattle.std.proofs.Common.{◌≡◌, ◌<◌, inl, inr, ℕ, zero, suc, ◌+
 use Rattle.std.specs.Bool.{Decides}
 use Rattle.std.specs.List.{IsAllAdjacentAnswer}
 use Rattle.std.proofs.lemmas.Bool.Decides.{Decides-and, Decides-like}
-use Rattle.bs_log.specs.ClosedTest.{Mem, InOrder}
 use Rattle.bs_log.specs.ValidTest.{chain_after, chain}
+use Rattle.bs_log.specs.Lists.{Mem, InOrder}
 
 module _ {X : Type 0} (e : X → X → Bool) where
   abbrev Joined : X → List X → Type 0

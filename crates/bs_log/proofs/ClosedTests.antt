@@ -20,9 +20,13 @@ use Rattle.bs_log.specs.declared.history.Block.{Block}
 use Rattle.bs_log.specs.declared.history.WaitAt.{WaitAt}
 use Rattle.bs_log.specs.declared.history.History.{History}
 use Rattle.bs_log.specs.Size.{size_all}
-use Rattle.bs_log.specs.Messages.{same_path, same_key, same_origin, is_below, is_for, sends_of, sent, times_by, times_in, times_of, times_sent}
+use Rattle.bs_log.specs.Messages.{same_path, same_key, same_origin, is_below, is_for, sends_of, sent, times_by, times_in, times_of, times_sent, one_key, one_asked}
 use Rattle.bs_log.specs.Checks.{rise_after, rise, has_path, causes_known, is_signed, are_signed, came_from, block_sends, history_sends, some_send, mail_is_sent, block_is_sound, is_lacking, is_sound, are_sound, asks_once, is_sent_once, block_sends_once, sends_once, keys_are_apart, is_small, passes}
-use Rattle.bs_log.specs.ClosedTest.{Mem, Apart, Each, IsBelow, Rising, CausesBefore, Numbered, SentTo, IsSound, AreSound, one_key, one_asked, Once, LooksClosed}
+use Rattle.bs_log.specs.ClosedTest.{LooksClosed}
+use Rattle.bs_log.specs.Lists.{Mem, Apart, Each}
+use Rattle.bs_log.specs.Paths.{IsBelow}
+use Rattle.bs_log.specs.Rising.{Rising}
+use Rattle.bs_log.specs.Sound.{CausesBefore, Numbered, SentTo, IsSound, AreSound, Once}
 use Rattle.bs_log.proofs.Decided.{SomeOf, never, le_is, all_each, all_as_each, any_some, none_is, apart_is, apart_from, apart_to}
 
 -- paths, origins and keys
@@ -68,18 +72,18 @@ lt_is Less = (λ e. refl, λ e. refl)
 lt_is Equal = (λ e. absurd (false≢true e), λ e. ap is_lt e)
 lt_is Greater = (λ e. absurd (false≢true e), λ e. ap is_lt e)
 
-rises_after : (p : Path) (xs : List Block) → Decides (rise_after p xs) (((y : Block) → Mem y xs → IsBelow p y.path) × Rising xs)
+rises_after : (p : Path) (xs : List Block) → Decides (rise_after p xs) (((y : Block) → Mem y xs → IsBelow p.0 y.path.0) × Rising xs)
 rises_after p [] = (λ e. (λ y m. absurd m, tt), λ h. refl)
 rises_after p (x ∷ xs) = Decides-like _ more parts (Decides-and (is_below p x.path) (rise_after x.path xs) (lt_is (slice_cmp nat_cmp p.0 x.path.0)) (rises_after x.path xs))
   where
-    below_all : IsBelow p x.path → ((y : Block) → Mem y xs → IsBelow x.path y.path) → (y : Block) → Mem y (x ∷ xs) → IsBelow p y.path
-    below_all b h y (inl e) = subst (λ (z : Block). IsBelow p z.path) (sym e) b
+    below_all : IsBelow p.0 x.path.0 → ((y : Block) → Mem y xs → IsBelow x.path.0 y.path.0) → (y : Block) → Mem y (x ∷ xs) → IsBelow p.0 y.path.0
+    below_all b h y (inl e) = subst (λ (z : Block). IsBelow p.0 z.path.0) (sym e) b
     below_all b h y (inr m) = nat_list_cmp_total.trans p.0 x.path.0 y.path.0 b (h y m)
 
-    more : IsBelow p x.path × (((y : Block) → Mem y xs → IsBelow x.path y.path) × Rising xs) → ((y : Block) → Mem y (x ∷ xs) → IsBelow p y.path) × Rising (x ∷ xs)
+    more : IsBelow p.0 x.path.0 × (((y : Block) → Mem y xs → IsBelow x.path.0 y.path.0) × Rising xs) → ((y : Block) → Mem y (x ∷ xs) → IsBelow p.0 y.path.0) × Rising (x ∷ xs)
     more h = (below_all h.0 (h.1).0, h.1)
 
-    parts : ((y : Block) → Mem y (x ∷ xs) → IsBelow p y.path) × Rising (x ∷ xs) → IsBelow p x.path × (((y : Block) → Mem y xs → IsBelow x.path y.path) × Rising xs)
+    parts : ((y : Block) → Mem y (x ∷ xs) → IsBelow p.0 y.path.0) × Rising (x ∷ xs) → IsBelow p.0 x.path.0 × (((y : Block) → Mem y xs → IsBelow x.path.0 y.path.0) × Rising xs)
     parts k = (k.0 x (inl refl), k.1)
 
 pub rising_is : (xs : List Block) → Decides (rise xs) (Rising xs)

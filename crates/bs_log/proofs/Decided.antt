@@ -6,7 +6,7 @@ use Rattle.std.proofs.lemmas.Bool.{false≢true}
 use Rattle.std.proofs.lemmas.Bool.Decides.{Decides-and, Decides-or, Decides-like, Decides-at, nat_tests}
 use Rattle.std.proofs.lemmas.List.Sums.{sum_by-cons}
 use Rattle.std.proofs.lemmas.List.Folds.{sum_by-zero}
-use Rattle.bs_log.specs.ClosedTest.{Mem, Apart, Each}
+use Rattle.bs_log.specs.Lists.{Mem, Apart, Each}
 
 -- some of a list holds
 pub record SomeOf {X : Type 0} (P : X → Type 0) (xs : List X) : Type 0 where

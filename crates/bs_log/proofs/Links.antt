@@ -9,9 +9,11 @@ use Rattle.bs_log.specs.declared.history.History.{History}
 use Rattle.bs_log.specs.Size.{block_size, size, size_all}
 use Rattle.bs_log.specs.Messages.{same_path}
 use Rattle.bs_log.specs.Checks.{has_path}
-use Rattle.bs_log.specs.ClosedTest.{Mem, CausesBefore, Numbered, SentTo, IsSound, AreSound, LooksClosed}
+use Rattle.bs_log.specs.ClosedTest.{LooksClosed}
 use Rattle.bs_log.specs.Collected.{blocks_in}
 use Rattle.bs_log.specs.Linked.{IsAt, HasBlock, AllHave, AllCame, IsLinked, AreLinked, AllLinked}
+use Rattle.bs_log.specs.Lists.{Mem}
+use Rattle.bs_log.specs.Sound.{CausesBefore, Numbered, SentTo, IsSound, AreSound}
 use Rattle.bs_log.proofs.Decided.{any_some}
 use Rattle.bs_log.proofs.ClosedTests.{same_path_is, rising_is, its_block, its_history}
 

@@ -12,9 +12,11 @@ use Rattle.bs_log.specs.declared.history.Block.{Block}
 use Rattle.bs_log.specs.declared.history.History.{History}
 use Rattle.bs_log.specs.Messages.{same_path, is_below}
 use Rattle.bs_log.specs.Checks.{has_path}
-use Rattle.bs_log.specs.ClosedTest.{Mem, IsBelow, Rising}
 use Rattle.bs_log.specs.Collected.{Site, site, sites_from, is_site, place, number_of, blocks_in}
 use Rattle.bs_log.specs.Linked.{IsAt, firsts_from}
+use Rattle.bs_log.specs.Lists.{Mem}
+use Rattle.bs_log.specs.Paths.{IsBelow}
+use Rattle.bs_log.specs.Rising.{Rising}
 use Rattle.bs_log.proofs.Decided.{any_some}
 use Rattle.bs_log.proofs.ClosedTests.{same_path_is, lt_is}
 
@@ -90,7 +92,7 @@ mem_at [] i d h = absurd (omega arith)
 mem_at (x ∷ xs) zero d h = inl refl
 mem_at (x ∷ xs) (suc i) d h = inr (mem_at xs i d (omega arith))
 
-rising_at : (xs : List Block) (i j : ℕ) (d : Block) → Rising xs → i < j → j < length xs → IsBelow (get_or xs i d).path (get_or xs j d).path
+rising_at : (xs : List Block) (i j : ℕ) (d : Block) → Rising xs → i < j → j < length xs → IsBelow (get_or xs i d).path.0 (get_or xs j d).path.0
 rising_at [] i j d r a b = absurd (omega arith)
 rising_at (x ∷ xs) i zero d r a b = absurd (omega arith)
 rising_at (x ∷ xs) zero (suc j) d r a b = r.0 (get_or xs j d) (mem_at xs j d (omega arith))
@@ -123,7 +125,7 @@ parted p (x ∷ xs) zero r e l h = by (same_path x.path p) refl
     above : has_path xs p ≡ true → ⊥
     above f =
         let s = (any_some (λ b. same_path b.path p) (λ b. b.path ≡ p) (λ b. same_path_is b.path p) xs).0 f in
-        let b = subst (λ z. IsBelow x.path z) s.holds (r.0 s.one s.is_in) in
+        let b = subst (λ (z : Path). IsBelow x.path.0 z.0) s.holds (r.0 s.one s.is_in) in
         false≢true (sym (h.1 zero x (omega arith) (omega arith)) ∙ (lt_is _).1 b)
 
     by : (b : Bool) → b ≡ same_path x.path p → 0 ≡ (if same_path x.path p then 0 else suc (place (λ b. same_path b.path p) xs))

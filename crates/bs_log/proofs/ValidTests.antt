@@ -12,10 +12,10 @@ use Rattle.bs_log.specs.declared.log.Row.{Row}
 use Rattle.bs_log.specs.declared.log.TrapRow.{TrapRow}
 use Rattle.bs_log.specs.declared.log.WaitRow.{WaitRow}
 use Rattle.bs_log.specs.declared.log.Log.{Log}
-use Rattle.bs_log.specs.ClosedTest.{Mem, Apart, InOrder}
 use Rattle.bs_log.specs.Rising.{IsLower}
 use Rattle.bs_log.specs.Valid.{IsWord, IsFrom, RowIsInRange, SendFits, numbered, Holds, IsBlockCause, IsMailCause, deepest, RowFits, EachFrom, sends_in, one_send, one_wait, is_awaited, TrapFits, WaitFits, TrapIsLower, WaitIsUpTo, lines_of, IsValid}
 use Rattle.bs_log.specs.ValidTest.{chain, is_word, is_from, passes_one, is_in_range, send_fits, is_of_chare, is_block_cause, goes_to, sends_to, is_mail_cause, ref_is_lower, offset_is_up_to, causes_fit, row_fits, rows_fit, trap_fits, wait_fits, chare_is_up_to, trap_is_lower, wait_is_up_to, is_sent_once, row_sends_once, is_awaited_once, has_room, is_in_order, all_fit, keys_are_apart, passes}
+use Rattle.bs_log.specs.Lists.{Mem, Apart, InOrder}
 use Rattle.bs_log.proofs.Decided.{le_is, all_each, none_is, apart_from, apart_to}
 use Rattle.bs_log.proofs.ClosedTests.{both_true, and_alike, key_itself, key_symm, either, in_front, behind}
 use Rattle.bs_log.proofs.Chains.{in_order_is}

@@ -9,8 +9,8 @@ use Rattle.bs_log.specs.declared.log.TrapRow.{TrapRow}
 use Rattle.bs_log.specs.declared.log.WaitRow.{WaitRow}
 use Rattle.bs_log.specs.declared.log.Log.{Log}
 use Rattle.bs_log.specs.Messages.{same_key}
-use Rattle.bs_log.specs.ClosedTest.{Mem, Apart, InOrder}
 use Rattle.bs_log.specs.Rising.{RowRises}
+use Rattle.bs_log.specs.Lists.{Mem, Apart, InOrder}
 
 -- a number of 64 bits with its sign
 abbrev pub IsWord : ℤ → Type 0

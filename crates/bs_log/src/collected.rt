@@ -22,8 +22,8 @@ pub fn collect(alloc: Global, histories: &[History], entries: u32) -> Result<Log
 {
     let firsts = firsts(alloc, histories)?;
     let rows = rows(alloc, histories, firsts.as_slice())?;
-    let traps = traps(alloc, histories)?;
-    let waits = waits(alloc, histories)?;
+    let traps = collect_traps(alloc, histories)?;
+    let waits = collect_waits(alloc, histories)?;
     Ok(Log {
         chares: histories.len() as u32,
         entries,
@@ -33,7 +33,9 @@ pub fn collect(alloc: Global, histories: &[History], entries: u32) -> Result<Log
     })
 }
 
-fn traps(alloc: Global, histories: &[History]) -> Result<List<TrapRow>, AllocError>
+/// The traps of histories, where they are those of the chares from 0 on, in the order of (chare,
+/// path). Its only refusal is want of memory.
+pub fn collect_traps(alloc: Global, histories: &[History]) -> Result<List<TrapRow>, AllocError>
     requires { length histories.now ≤ 65536 }
     ensures { IfOk result (λ traps. traps ≡ traps_from 0 histories.now) }
 {
@@ -58,7 +60,9 @@ fn push_traps(rows: &mut List<TrapRow>, chare: u32, traps: &[TrapAt]) -> Result<
     Ok(())
 }
 
-fn waits(alloc: Global, histories: &[History]) -> Result<List<WaitRow>, AllocError>
+/// The waits of histories, where they are those of the chares from 0 on, in the order of (chare,
+/// path). Its only refusal is want of memory.
+pub fn collect_waits(alloc: Global, histories: &[History]) -> Result<List<WaitRow>, AllocError>
     requires { length histories.now ≤ 65536 }
     ensures { IfOk result (λ waits. waits ≡ waits_from 0 histories.now) }
 {

@@ -5,6 +5,7 @@
 
 mod closed;
 mod collected;
+mod copies;
 mod ending;
 mod history;
 mod laws;
@@ -17,7 +18,11 @@ mod sizes;
 mod validity;
 
 pub use closed::is_closed;
-pub use collected::collect;
+pub use collected::{collect, collect_traps, collect_waits};
+pub use copies::{
+    copy_block, copy_history, copy_message, copy_messages, copy_numbers, copy_origin, copy_origins,
+    copy_path, push_messages,
+};
 pub use ending::end;
 pub use history::{Asked, Block, History, Key, Message, Origin, Sent, TrapAt, TrapKind, WaitAt};
 pub use laws::numbers_rise;

@@ -4,9 +4,9 @@ use Rattle.bs_log.specs.declared.history.Sent.{Sent}
 use Rattle.bs_log.specs.declared.log.Row.{Row}
 use Rattle.bs_log.specs.declared.log.WaitRow.{WaitRow}
 use Rattle.bs_log.specs.declared.log.Log.{Log}
-use Rattle.bs_log.specs.ClosedTest.{Mem, Apart, Each, InOrder}
 use Rattle.bs_log.specs.Rising.{IsLower}
 use Rattle.bs_log.specs.Valid.{RowIsInRange, IsBlockCause, IsMailCause, deepest, RowFits, EachFrom, sends_in, one_send, one_wait, is_awaited, TrapIsLower, WaitIsUpTo, IsValid}
+use Rattle.bs_log.specs.Lists.{Mem, Apart, Each, InOrder}
 use Rattle.bs_log.proofs.ClosedTests.{in_front, behind, either}
 use Rattle.bs_logcheck.specs.declared.rule.LogRule.{LogRule}
 use Rattle.bs_logcheck.specs.declared.rule.LogRule.TheVariants.{BadLine, BadReference, BadDepth, TwiceUsed, Limits}

@@ -1,7 +1,7 @@
 -- What holds of each line of a list, and what it says of the list that the lines are of.
 use Rattle.std.proofs.Common.{◌≡◌, ◌⊎◌, inl, inr, ℕ, zero, suc, ◌+◌, Bool, false, List, [], ◌∷◌, ◌++◌, Option, Some, None, refl, sym, ap, subst, ◌∙◌}
-use Rattle.bs_log.specs.ClosedTest.{Mem, Apart, Each, InOrder}
 use Rattle.bs_log.specs.Valid.{EachFrom}
+use Rattle.bs_log.specs.Lists.{Mem, Apart, Each, InOrder}
 use Rattle.bs_log.proofs.ClosedTests.{in_front, behind, either}
 use Rattle.bs_logcheck.specs.Lines.{Line, each_line, lines_with, IsAt}
 use Rattle.bs_logcheck.specs.Rules.{Follows}

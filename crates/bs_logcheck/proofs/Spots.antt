@@ -10,13 +10,13 @@ use Rattle.bs_log.specs.declared.history.Key.{Key}
 use Rattle.bs_log.specs.declared.history.Sent.{Sent}
 use Rattle.bs_log.specs.declared.log.Row.{Row}
 use Rattle.bs_log.specs.declared.log.WaitRow.{WaitRow}
-use Rattle.bs_log.specs.Messages.{same_key}
-use Rattle.bs_log.specs.ClosedTest.{Mem}
+use Rattle.bs_log.specs.Messages.{same_key, key_cmp}
 use Rattle.bs_log.specs.Valid.{sends_in, one_send, one_wait, is_awaited}
+use Rattle.bs_log.specs.Lists.{Mem}
 use Rattle.bs_log.proofs.ClosedTests.{and_alike, key_symm}
 use Rattle.bs_logcheck.specs.declared.place.Place.{Place}
 use Rattle.bs_logcheck.specs.Lines.{with_more}
-use Rattle.bs_logcheck.specs.Places.{key_cmp, place_cmp, goal_of, spot_of, nowhere, with_places, places}
+use Rattle.bs_logcheck.specs.Places.{place_cmp, goal_of, spot_of, nowhere, with_places, places}
 use Rattle.bs_logcheck.specs.Faults.{with_rows}
 
 is_same : (a b : Key) → is_eq (key_cmp a b) ≡ same_key a b

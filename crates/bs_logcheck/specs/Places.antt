@@ -1,17 +1,13 @@
 -- Places that messages go to: a chare and a key there. A set of them is seen as a test of each place.
 use Rattle.std.specs.Prelude.{Bool, true, false, if◌then◌else◌, List, [], ◌∷◌}
-use Rattle.std.specs.Ordering.{nat_cmp, int_cmp, ordering_then}
+use Rattle.std.specs.Ordering.{nat_cmp, ordering_then}
 use Rattle.std.specs.declared.cmp.Ordering.{Ordering}
 use Rattle.std.specs.BTreeMap.{is_at}
 use Rattle.std.specs.BTreeSet.{BTreeSet, contains}
-use Rattle.bs_log.specs.declared.history.Key.{Key}
 use Rattle.bs_log.specs.declared.history.Sent.{Sent}
 use Rattle.bs_log.specs.declared.log.WaitRow.{WaitRow}
+use Rattle.bs_log.specs.Messages.{key_cmp}
 use Rattle.bs_logcheck.specs.declared.place.Place.{Place}
-
--- keys are ordered by entry, and then by reference number
-abbrev pub key_cmp : Key → Key → Ordering
-key_cmp a b = ordering_then (nat_cmp a.entry b.entry) (int_cmp a.reference b.reference)
 
 -- places are ordered by chare, and then by key
 abbrev pub place_cmp : Place → Place → Ordering

@@ -5,8 +5,8 @@ use Rattle.bs_log.specs.declared.log.Row.{Row}
 use Rattle.bs_log.specs.declared.log.TrapRow.{TrapRow}
 use Rattle.bs_log.specs.declared.log.WaitRow.{WaitRow}
 use Rattle.bs_log.specs.declared.log.Log.{Log}
-use Rattle.bs_log.specs.ClosedTest.{Mem}
 use Rattle.bs_log.specs.Valid.{IsWord, IsFrom, IsStmt, RowIsInRange, lines_of}
+use Rattle.bs_log.specs.Lists.{Mem}
 
 pub record SendIsInRange (s : Sent) : Type 0 where
   pub reference : IsWord s.key.reference

@@ -6,9 +6,9 @@ use Rattle.bs_log.specs.declared.log.Row.{Row}
 use Rattle.bs_log.specs.declared.log.TrapRow.{TrapRow}
 use Rattle.bs_log.specs.declared.log.WaitRow.{WaitRow}
 use Rattle.bs_log.specs.declared.log.Log.{Log}
-use Rattle.bs_log.specs.ClosedTest.{Mem}
 use Rattle.bs_log.specs.Rising.{IsLower}
 use Rattle.bs_log.specs.Valid.{IsBlockCause, IsMailCause, deepest, sends_in, one_send, one_wait, is_awaited, TrapIsLower, WaitIsUpTo}
+use Rattle.bs_log.specs.Lists.{Mem}
 use Rattle.bs_logcheck.specs.declared.rule.LogRule.{LogRule}
 use Rattle.bs_logcheck.specs.declared.rule.LogRule.TheVariants.{BadLine, BadReference, BadDepth, TwiceUsed, Limits}
 use Rattle.bs_logcheck.specs.Lines.{Line, RowLine, AfterLine, MailLine, EmitLine, SendLine, TrapLine, WaitLine, IsLine}

@@ -8,9 +8,9 @@ use Rattle.bs_log.specs.declared.log.Row.{Row}
 use Rattle.bs_log.specs.declared.log.TrapRow.{TrapRow}
 use Rattle.bs_log.specs.declared.log.WaitRow.{WaitRow}
 use Rattle.bs_log.specs.declared.log.Log.{Log}
-use Rattle.bs_log.specs.ClosedTest.{Mem}
 use Rattle.bs_log.specs.Valid.{IsWord, IsFrom, RowIsInRange, row_lines, lines_of}
 use Rattle.bs_log.specs.ValidTest.{is_from, is_word}
+use Rattle.bs_log.specs.Lists.{Mem}
 use Rattle.bs_logcheck.specs.Ranges.{SendIsInRange, IsInRange}
 use Rattle.bs_logread.specs.declared.lines.Line.{Line}
 use Rattle.bs_logread.specs.declared.lines.Line.TheVariants as l

@@ -12,3 +12,4 @@ pub mod Inside
 pub mod Back
 pub mod Kept
 pub mod Unique
+pub mod SomeText

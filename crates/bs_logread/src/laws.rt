@@ -1,5 +1,5 @@
 // Laws of the texts of logs. Each is a function without a body, whose contract is the law.
-ghost use Rattle.std.specs.Prelude.{◌≡◌, ℕ, List};
+ghost use Rattle.std.specs.Prelude.{◌≡◌, ◌⊎◌, ℕ, List};
 ghost use Rattle.bs_log.specs.declared.log.Log.{Log};
 ghost use Rattle.bs_log.specs.Valid.{IsValid};
 ghost use Rattle.bs_logtext.specs.Text.{log_text};
@@ -23,4 +23,10 @@ pub fn one_fault()
 pub fn written_logs_are_read()
     ensures read { (log : Log) → IsValid log → IsRead (log_text log) log }
     ensures only { (a b : Log) → IsValid a → IsRead (log_text a) b → a ≡ b }
+{}
+
+/// Every text is that of a valid log, or has a first fault. So by the other laws it is just one of the two,
+/// and `read_log` answers that one wherever memory is found.
+pub fn some_answer()
+    ensures { (text : List ℕ) → ((log : Log) × IsValid log × (log_text log ≡ text)) ⊎ ((line : ℕ) × (rule : LogRule) × IsFault text line rule) }
 {}

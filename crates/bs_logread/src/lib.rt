@@ -14,7 +14,7 @@ mod words;
 
 pub use bs_logcheck::LogRule;
 pub use fault::LogFault;
-pub use laws::{one_fault, one_text, written_logs_are_read};
+pub use laws::{one_fault, one_text, some_answer, written_logs_are_read};
 pub use lines::{Counts, Head, Line};
 pub use reading::read_log;
 

@@ -9,16 +9,18 @@ use Rattle.bs_log.specs.declared.history.History.{History}
 use Rattle.bs_log.specs.declared.log.MailRef.{MailRef}
 use Rattle.bs_log.specs.declared.log.Row.{Row}
 use Rattle.bs_log.specs.declared.log.Log.{Log}
-use Rattle.bs_log.specs.ClosedTest.{Mem, IsBelow, Rising, Numbered, SentTo, LooksClosed}
+use Rattle.bs_log.specs.ClosedTest.{LooksClosed}
 use Rattle.bs_log.specs.Collected.{number_of, mail_ref, row_of, rows_from, traps_from, waits_from}
 use Rattle.bs_log.specs.Linked.{IsAt, HasBlock}
 use Rattle.bs_log.specs.Valid.{numbered, Holds, row_depth, deepest, IsBlockCause, IsMailCause}
+use Rattle.bs_log.specs.Lists.{Mem}
+use Rattle.bs_log.specs.Paths.{IsBelow}
+use Rattle.bs_log.specs.Rising.{Rising}
+use Rattle.bs_log.specs.Sound.{Numbered, SentTo}
 use Rattle.bs_log.proofs.ClosedTests.{its_history, its_block}
 use Rattle.bs_log.proofs.Links.{has_member, place_of_member, sound_here, there}
 use Rattle.bs_log.proofs.Order.{earlier_path, map_member}
 use Rattle.bs_semantics.specs.Run.{greatest}
-use Rattle.bs_semantics.specs.Rounds as rounds
-use Rattle.bs_semantics.specs.Orderly as orderly
 use Rattle.bs_semantics.specs.Orderly.{EachRestsOn}
 use Rattle.bs_logtext.proofs.Rows.{At, numbered_at, row_is}
 
@@ -26,36 +28,26 @@ use Rattle.bs_logtext.proofs.Rows.{At, numbered_at, row_is}
 abbrev pub log_here : List History → ℕ → Log
 log_here hs entries = record { chares = length hs; entries = entries; rows = rows_from hs 0 hs; traps = traps_from 0 hs; waits = waits_from 0 hs }
 
-pub to_mem : {A : Type 0} (x : A) (xs : List A) → rounds.Mem x xs → Mem x xs
-to_mem x [] m = absurd m
-to_mem x (y ∷ ys) (inl e) = inl e
-to_mem x (y ∷ ys) (inr m) = inr (to_mem x ys m)
-
-pub of_mem : {A : Type 0} (x : A) (xs : List A) → Mem x xs → rounds.Mem x xs
-of_mem x [] m = absurd m
-of_mem x (y ∷ ys) (inl e) = inl e
-of_mem x (y ∷ ys) (inr m) = inr (of_mem x ys m)
-
 -- the block causes of a block, which are earlier blocks, and its depth
 pub record Caused (bs : List Block) (x : Block) : Type 0 where
   pub causes : List Block
-  pub known : (b : Block) → Mem b causes → Mem b bs × IsBelow b.path x.path
+  pub known : (b : Block) → Mem b causes → Mem b bs × IsBelow b.path.0 x.path.0
   pub after : x.after ≡ map (λ b. b.path) causes
   pub depth : x.depth ≡ suc (max (greatest (λ b. b.depth) causes) (greatest (λ o. o.depth) x.mail))
 
-pub caused : (P : Block → Type 0) (xs all : List Block) → EachRestsOn P xs → orderly.Rising xs → ((b : Block) → P b → Mem b all × ((y : Block) → Mem y xs → IsBelow b.path y.path)) → ((b : Block) → Mem b xs → Mem b all)
+pub caused : (P : Block → Type 0) (xs all : List Block) → EachRestsOn P xs → Rising xs → ((b : Block) → P b → Mem b all × ((y : Block) → Mem y xs → IsBelow b.path.0 y.path.0)) → ((b : Block) → Mem b xs → Mem b all)
     → (x : Block) → Mem x xs → Caused all x
 caused P [] all e r f g x m = absurd m
 caused P (y ∷ ys) all e r f g x (inl q) = subst (Caused all) (sym q) (record {
   causes = (e.0).causes;
-  known = λ b m. let k = f b ((e.0).known b (of_mem b (e.0).causes m)) in (k.0, k.1 y (inl refl));
+  known = λ b m. let k = f b ((e.0).known b m) in (k.0, k.1 y (inl refl));
   after = (e.0).after;
   depth = (e.0).depth;
 })
 caused P (y ∷ ys) all e r f g x (inr m) = caused (λ b. (b ≡ y) ⊎ P b) ys all e.1 r.1 step (λ b k. g b (inr k)) x m
   where
-    step : (b : Block) → (b ≡ y) ⊎ P b → Mem b all × ((z : Block) → Mem z ys → IsBelow b.path z.path)
-    step b (inl q) = subst (λ (w : Block). Mem w all × ((z : Block) → Mem z ys → IsBelow w.path z.path)) (sym q) (g y (inl refl), (λ z k. r.0 z (of_mem z ys k)))
+    step : (b : Block) → (b ≡ y) ⊎ P b → Mem b all × ((z : Block) → Mem z ys → IsBelow b.path.0 z.path.0)
+    step b (inl q) = subst (λ (w : Block). Mem w all × ((z : Block) → Mem z ys → IsBelow w.path.0 z.path.0)) (sym q) (g y (inl refl), (λ z k. r.0 z k))
     step b (inr p) = let k = f b p in (k.0, (λ z i. k.1 z (inr i)))
 
 -- the greatest of a list, by a fold

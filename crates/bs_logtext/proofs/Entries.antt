@@ -10,7 +10,7 @@ use Rattle.bs_tree.specs.declared.tree.Act.TheOpen.{Act-F}
 use Rattle.bs_tree.specs.declared.tree.Act.TheFolds.{fold-roll-Act, ind-Act, map-Act}
 use Rattle.bs_log.specs.declared.history.TrapKind.{TrapKind}
 use Rattle.bs_log.specs.declared.history.TrapKind.TheVariants.{Target, BytesRange, WorkRange, CostRange, Steps}
-use Rattle.bs_log.specs.ClosedTest.{Mem}
+use Rattle.bs_log.specs.Lists.{Mem}
 use Rattle.bs_log.proofs.ClosedTests.{either}
 use Rattle.bs_semantics.specs.Layout.{width, place_of, find_entry, entry_of}
 use Rattle.bs_semantics.specs.Value.{Cells, value_of, is_zero, indexed}

@@ -7,11 +7,11 @@ use Rattle.bs_log.specs.declared.history.Block.{Block}
 use Rattle.bs_log.specs.declared.history.History.{History}
 use Rattle.bs_log.specs.declared.log.Row.{Row}
 use Rattle.bs_log.specs.Size.{block_size, size, size_all}
-use Rattle.bs_log.specs.Messages.{sends_of, sent}
-use Rattle.bs_log.specs.ClosedTest.{Mem, Apart, InOrder, one_key}
+use Rattle.bs_log.specs.Messages.{sends_of, sent, one_key}
 use Rattle.bs_log.specs.Collected.{number_of, mail_ref, row_of, rows_from, trap_row, traps_from, wait_row, waits_from}
 use Rattle.bs_log.specs.Linked.{IsAt}
 use Rattle.bs_log.specs.Valid.{row_lines, sends_in, one_send}
+use Rattle.bs_log.specs.Lists.{Mem, Apart, InOrder}
 use Rattle.bs_log.proofs.ClosedTests.{either, message_symm}
 use Rattle.bs_log.proofs.Order.{map_member}
 

@@ -5,9 +5,9 @@ use Rattle.std.proofs.lemmas.Bool.{and_parts}
 use Rattle.bs_log.specs.declared.history.Sent.{Sent}
 use Rattle.bs_log.specs.declared.log.Row.{Row}
 use Rattle.bs_log.specs.declared.log.Log.{Log}
-use Rattle.bs_log.specs.ClosedTest.{Mem}
 use Rattle.bs_log.specs.Valid.{IsWord}
 use Rattle.bs_log.specs.ValidTest.{is_word}
+use Rattle.bs_log.specs.Lists.{Mem}
 use Rattle.bs_log.proofs.Decided.{all_each}
 use Rattle.bs_log.proofs.ValidTests.{lt_decides}
 use Rattle.std.specs.Bool.{Decides}

@@ -13,8 +13,8 @@ use Rattle.bs_log.specs.declared.log.Row.{Row}
 use Rattle.bs_log.specs.declared.log.TrapRow.{TrapRow}
 use Rattle.bs_log.specs.declared.log.WaitRow.{WaitRow}
 use Rattle.bs_log.specs.declared.log.Log.{Log}
-use Rattle.bs_log.specs.ClosedTest.{Mem}
 use Rattle.bs_log.specs.Valid.{IsWord, SendFits, numbered, Holds, RowFits, EachFrom, TrapFits, WaitFits, row_lines, IsValid}
+use Rattle.bs_log.specs.Lists.{Mem}
 use Rattle.bs_logtext.specs.Text.{counts_line, row_line, after_line, mail_line, emit_line, send_line, row_text, kind_number, trap_line, wait_line, log_text}
 
 digits : (n : ℕ) → n ≤ 2 ^ 32 → length (decimal n) ≤ 10

@@ -6,10 +6,11 @@ use Rattle.bs_log.specs.declared.history.History.{History}
 use Rattle.bs_log.specs.declared.log.Row.{Row}
 use Rattle.bs_log.specs.Messages.{same_path}
 use Rattle.bs_log.specs.Checks.{has_path}
-use Rattle.bs_log.specs.ClosedTest.{Mem, Rising}
 use Rattle.bs_log.specs.Collected.{place, number_of, row_of, rows_from}
 use Rattle.bs_log.specs.Linked.{IsAt, firsts_from}
 use Rattle.bs_log.specs.Valid.{numbered, EachFrom}
+use Rattle.bs_log.specs.Lists.{Mem}
+use Rattle.bs_log.specs.Rising.{Rising}
 use Rattle.bs_log.proofs.ClosedTests.{same_path_is, lt_is}
 use Rattle.bs_log.proofs.Links.{has_member}
 use Rattle.bs_log.proofs.Numbers.{number_is, not_below_itself}

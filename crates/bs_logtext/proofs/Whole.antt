@@ -1,10 +1,5 @@
 -- The log of closed histories is valid.
-use Rattle.std.proofs.Common.{◌≡◌, ◌≤◌, ◌<◌, inl, inr, ℕ, zero, suc, ◌+◌, ◌==◌, Bool, true, false, ◌&&◌, List, [], ◌∷◌, ◌++◌, refl, sym, ap, subst, ◌∙◌, length, map, nat_cmp, arith}
-use Rattle.std.specs.Ordering.{ordering_then}
-use Rattle.std.specs.Cmp.Lexicographic.{slice_cmp}
-use Rattle.std.specs.declared.cmp.Ordering.{Ordering}
-use Rattle.std.specs.declared.cmp.Ordering.TheVariants.{Less, Equal, Greater}
-use Rattle.std.proofs.lemmas.Map.Lookups.{exact_bytes, exact_unsigned}
+use Rattle.std.proofs.Common.{◌≡◌, ◌≤◌, ◌<◌, inl, inr, ℕ, zero, suc, ◌+◌, ◌==◌, Bool, true, false, ◌&&◌, List, [], ◌∷◌, ◌++◌, refl, sym, ap, subst, ◌∙◌, length, map, arith}
 use Rattle.std.proofs.lemmas.Bool.Decides.{nat_tests}
 use Rattle.bs_tree.specs.declared.tree.Program.{Program}
 use Rattle.bs_tree.specs.Count.{statements_in}
@@ -19,21 +14,20 @@ use Rattle.bs_log.specs.declared.history.History.{History}
 use Rattle.bs_log.specs.declared.log.Row.{Row}
 use Rattle.bs_log.specs.declared.log.TrapRow.{TrapRow}
 use Rattle.bs_log.specs.declared.log.WaitRow.{WaitRow}
-use Rattle.bs_log.specs.Messages.{same_key, sends_of, sent}
-use Rattle.bs_log.specs.ClosedTest.{Mem, Apart, Each, InOrder, IsBelow, one_asked, LooksClosed}
+use Rattle.bs_log.specs.Messages.{same_key, sends_of, sent, one_asked}
+use Rattle.bs_log.specs.ClosedTest.{LooksClosed}
 use Rattle.bs_log.specs.Collected.{number_of, mail_ref, row_of, rows_from, trap_row, traps_from, wait_row, waits_from, log_of}
 use Rattle.bs_log.specs.Linked.{IsAt}
-use Rattle.bs_log.specs.Rising.{IsBefore, CausesRise}
+use Rattle.bs_log.specs.Rising.{CausesRise}
 use Rattle.bs_log.specs.Valid.{IsFrom, SendFits, RowFits, TrapFits, WaitFits, TrapIsLower, WaitIsUpTo, one_wait, is_awaited, RowIsInRange, IsValid, IsMailCause}
+use Rattle.bs_log.specs.Lists.{Mem, Apart, Each, InOrder}
 use Rattle.bs_log.proofs.ClosedTests.{key_symm, in_front, behind}
 use Rattle.bs_log.proofs.Links.{linked, sound_here}
 use Rattle.bs_log.proofs.Numbers.{at_within}
 use Rattle.bs_log.proofs.Order.{map_member, order_map, rows_rise}
 use Rattle.bs_semantics.specs.Run.{Lookup, history}
-use Rattle.bs_semantics.specs.Rounds as rounds
 use Rattle.bs_semantics.specs.Rounds.{Closed, mail_to, from_to, histories}
-use Rattle.bs_semantics.specs.Orderly as orderly
-use Rattle.bs_semantics.specs.Orderly.{IsNumbered, IsStatement, HasSortedCauses}
+use Rattle.bs_semantics.specs.Orderly.{IsNumbered, IsStatement}
 use Rattle.bs_semantics.specs.Proper.{IsProper}
 use Rattle.bs_semantics.specs.Depth.{all_blocks}
 use Rattle.bs_semantics.proofs.Members.{mem_left, mem_right}
@@ -50,37 +44,8 @@ use Rattle.bs_semantics.proofs.LooksClosed.{looks_closed}
 use Rattle.bs_logtext.specs.Declared.{AreDeclared}
 use Rattle.bs_logtext.proofs.Asking.{Among, keys_asked, keys_waited, run_waits}
 use Rattle.bs_logtext.proofs.Rows.{each_row}
-use Rattle.bs_logtext.proofs.Causes.{log_here, to_mem, of_mem, Caused, caused, block_cause, mail_cause, depth_is, rising_here}
+use Rattle.bs_logtext.proofs.Causes.{log_here, Caused, caused, block_cause, mail_cause, depth_is, rising_here}
 use Rattle.bs_logtext.proofs.Gathered.{rows_gather, traps_gather, waits_gather, comes_from, gather_order, gather_apart, all_lines, sends_are, sent_apart}
-
-to_order : {A : Type 0} (R : A → A → Type 0) (xs : List A) → orderly.InOrder R xs → InOrder R xs
-to_order R [] h = tt
-to_order R (x ∷ xs) h = ((λ y m. h.0 y (of_mem y xs m)), to_order R xs h.1)
-
-order_weaker : {A : Type 0} (R S : A → A → Type 0) (xs : List A) → ((a b : A) → R a b → S a b) → InOrder R xs → InOrder S xs
-order_weaker R S [] f h = tt
-order_weaker R S (x ∷ xs) f h = ((λ y m. f x y (h.0 y m)), order_weaker R S xs f h.1)
-
--- the order of messages, by cases
-
-less_is : (a b : ℕ) → nat_cmp a b ≡ Less → a < b
-less_is a b e = grind (arith, nat_tests)
-
-before_is : (a b : Origin) → orderly.IsBefore a b → IsBefore a b
-before_is a b = by_chare (nat_cmp a.chare b.chare) refl
-  where
-    by_index : (o : Ordering) → nat_cmp a.index b.index ≡ o → nat_cmp a.chare b.chare ≡ Equal → slice_cmp nat_cmp a.path.0 b.path.0 ≡ Equal → o ≡ Less → IsBefore a b
-    by_index o e c p q = inr (exact_unsigned _ _ c, ((λ j. record { 0 = exact_bytes a.path.0 b.path.0 p j }), less_is a.index b.index (e ∙ q)))
-
-    by_path : (o : Ordering) → slice_cmp nat_cmp a.path.0 b.path.0 ≡ o → nat_cmp a.chare b.chare ≡ Equal → ordering_then o (nat_cmp a.index b.index) ≡ Less → IsBefore a b
-    by_path Less e c q = inl (inr (exact_unsigned _ _ c, e))
-    by_path Equal e c q = by_index (nat_cmp a.index b.index) refl c e q
-    by_path Greater e c q = absurd (cc)
-
-    by_chare : (o : Ordering) → nat_cmp a.chare b.chare ≡ o → ordering_then o (ordering_then (slice_cmp nat_cmp a.path.0 b.path.0) (nat_cmp a.index b.index)) ≡ Less → IsBefore a b
-    by_chare Less e q = inl (inl (less_is a.chare b.chare e))
-    by_chare Equal e q = by_path (slice_cmp nat_cmp a.path.0 b.path.0) refl e q
-    by_chare Greater e q = absurd (cc)
 
 -- the histories are those of the definition
 
@@ -99,9 +64,9 @@ place_of [] h m = absurd m
 place_of (x ∷ xs) h (inl e) = (0, sym e)
 place_of (x ∷ xs) h (inr m) = let r = place_of xs h m in (suc r.0, r.1)
 
-block_among : (hs : List History) (h : History) (x : Block) → Mem h hs → Mem x h.blocks → rounds.Mem x (all_blocks hs)
+block_among : (hs : List History) (h : History) (x : Block) → Mem h hs → Mem x h.blocks → Mem x (all_blocks hs)
 block_among [] h x m i = absurd m
-block_among (y ∷ ys) h x (inl e) i = mem_left x y.blocks (all_blocks ys) (of_mem x y.blocks (subst (λ (z : History). Mem x z.blocks) e i))
+block_among (y ∷ ys) h x (inl e) i = mem_left x y.blocks (all_blocks ys) (subst (λ (z : History). Mem x z.blocks) e i)
 block_among (y ∷ ys) h x (inr m) i = mem_right x y.blocks (all_blocks ys) (block_among ys h x m i)
 
 pub each_at : (P : History → Type 0) (hs : List History) → Each P hs → (j : ℕ) (h : History) → IsAt hs j h → P h
@@ -117,20 +82,20 @@ other_chare c d b l = let e : (d == c) ≡ false = grind (arith, nat_tests) in a
 same_chare : (c : ℕ) (b : Bool) → ((c == c) && b) ≡ b
 same_chare c b = let e : (c == c) ≡ true = grind (arith, nat_tests) in ap (λ z. z && b) e
 
-keys_apart : (as' : List _) → Apart one_asked as' → rounds.Apart same_key (keys_asked as')
+keys_apart : (as' : List _) → Apart one_asked as' → Apart same_key (keys_asked as')
 keys_apart [] h = tt
-keys_apart (a ∷ as') h = ((λ k m. let s = map_member (λ b. b.key) as' k (to_mem k (keys_asked as') m) in subst (λ z. same_key a.key z ≡ false) (sym s.holds) (h.0 s.one s.is_in)), keys_apart as' h.1)
+keys_apart (a ∷ as') h = ((λ k m. let s = map_member (λ b. b.key) as' k m in subst (λ z. same_key a.key z ≡ false) (sym s.holds) (h.0 s.one s.is_in)), keys_apart as' h.1)
 
 same_length : {A B : Type 0} (f : A → B) (xs : List A) → length (map f xs) ≡ length xs
 same_length f [] = refl
 same_length f (x ∷ xs) = ap suc (same_length f xs)
 
-key_among : (ws : List WaitAt) (w : WaitAt) → Mem w ws → rounds.Mem w.key (keys_waited ws)
+key_among : (ws : List WaitAt) (w : WaitAt) → Mem w ws → Mem w.key (keys_waited ws)
 key_among [] w m = absurd m
 key_among (v ∷ vs) w (inl e) = inl (ap (λ (z : WaitAt). z.key) e)
 key_among (v ∷ vs) w (inr m) = inr (key_among vs w m)
 
-waits_apart : (c : ℕ) (ws : List WaitAt) → rounds.Apart same_key (keys_waited ws) → Apart one_wait (map (wait_row c) ws)
+waits_apart : (c : ℕ) (ws : List WaitAt) → Apart same_key (keys_waited ws) → Apart one_wait (map (wait_row c) ws)
 waits_apart c [] h = tt
 waits_apart c (w ∷ ws) h = (first, waits_apart c ws h.1)
   where
@@ -182,7 +147,7 @@ sent_among (g ∷ gs) h m (inr i) k = behind m (sends_of g.blocks) (sent gs) (se
 module _ (p : Program) (limit : ℕ) (hs : List History) (small : limit ≤ 262144) (some : 1 ≤ p.chares) (few : p.chares ≤ 65536) (entries : length p.entries ≤ 1000) (stmts : statements_in p.body ≤ 10000)
     (names : AreDeclared (length p.entries) hs) (closed : Closed p limit hs) where
   abbrev mail_here : ℕ → Lookup
-  mail_here c = mail_to (rounds.sent hs) c
+  mail_here c = mail_to (sent hs) c
 
   looks : LooksClosed hs
   looks = looks_closed p limit hs small some few closed
@@ -196,7 +161,7 @@ module _ (p : Program) (limit : ℕ) (hs : List History) (small : limit ≤ 2621
   numbers c h t = subst (IsNumbered p) (history_is c h t) (numbering.numbered p limit c (mail_here c))
 
   proper : (c : ℕ) (h : History) → IsAt hs c h → (x : Block) → Mem x h.blocks → IsProper p x
-  proper c h t x m = subst (λ (z : History). (x : Block) → rounds.Mem x z.blocks → IsProper p x) (history_is c h t) (run_proper p limit c (mail_here c)) x (of_mem x h.blocks m)
+  proper c h t x m = subst (λ (z : History). (x : Block) → Mem x z.blocks → IsProper p x) (history_is c h t) (run_proper p limit c (mail_here c)) x m
 
   causes : (c : ℕ) (h : History) → IsAt hs c h → (x : Block) → Mem x h.blocks → Caused h.blocks x
   causes c h t = subst (λ (z : History). (x : Block) → Mem x z.blocks → Caused z.blocks x) (history_is c h t)
@@ -221,7 +186,7 @@ module _ (p : Program) (limit : ℕ) (hs : List History) (small : limit ≤ 2621
       let size = closed.size in
       let own = proper c h t x m in
       record {
-        stmt = stmt_is x.stmt ((numbers c h t).blocks x (of_mem x h.blocks m));
+        stmt = stmt_is x.stmt ((numbers c h t).blocks x m);
         depth = record { least_is = omega (arith, deep); most_is = omega (arith, shallow, count, size) };
         cost = record { least_is = own.least; most_is = own.most };
         emits = names.emitted h (member_of hs c h t) x m;
@@ -231,7 +196,7 @@ module _ (p : Program) (limit : ℕ) (hs : List History) (small : limit ≤ 2621
   send_fits c h x t m s i =
       let o = map_member (λ (n : Message). n.sent) x.sends s i in
       let own = proper c h t x m in
-      let one = own.sends o.one (of_mem o.one x.sends o.is_in) in
+      let one = own.sends o.one o.is_in in
       let key = names.sent o.one (sent_among hs h o.one (member_of hs c h t) (sends_among h.blocks x o.one m o.is_in)) in
       let target = one.target in
       let count = chares_are in
@@ -247,9 +212,7 @@ module _ (p : Program) (limit : ℕ) (hs : List History) (small : limit ≤ 2621
       })
 
   rises : (h : History) → Mem h hs → (x : Block) → Mem x h.blocks → CausesRise x
-  rises h i x m =
-      let s = closed_sorted p limit hs closed x (block_among hs h x i m) in
-      record { after = to_order IsBelow x.after s.after; mail = order_weaker orderly.IsBefore IsBefore x.mail before_is (to_order orderly.IsBefore x.mail s.mail) }
+  rises h i x m = closed_sorted p limit hs closed x (block_among hs h x i m)
 
   row_fits : (c : ℕ) (h : History) (x : Block) → IsAt hs c h → Mem x h.blocks → RowFits (log_here hs (length p.entries)) (number_of hs c x.path) (row_of hs c x)
   unfolding row_of
@@ -264,7 +227,7 @@ module _ (p : Program) (limit : ℕ) (hs : List History) (small : limit ≤ 2621
         rises = rows_rise hs 0 hs (linked hs looks) rises (row_of hs c x) (row_member hs hs 0 c c h x (omega arith) t m);
         depth = depth_is hs looks c h t (length p.entries) x m k;
         sends = send_fits c h x t m;
-        offsets = order_map (λ (a b : Message). a.sent.offset ≤ b.sent.offset) (λ (a b : Sent). a.offset ≤ b.offset) (λ (n : Message). n.sent) x.sends (λ a b i j r. r) (to_order _ x.sends (proper c h t x m).offsets);
+        offsets = order_map (λ (a b : Message). a.sent.offset ≤ b.sent.offset) (λ (a b : Sent). a.offset ≤ b.offset) (λ (n : Message). n.sent) x.sends (λ a b i j r. r) (proper c h t x m).offsets;
       }
 
   at_place : (c j : ℕ) (h : History) → c ≡ 0 + j → IsAt hs j h → IsAt hs c h
@@ -276,7 +239,7 @@ module _ (p : Program) (limit : ℕ) (hs : List History) (small : limit ≤ 2621
       let at = at_place f.chare f.place f.history f.counted f.is_at in
       subst (TrapFits (log_here hs (length p.entries))) (sym f.is) (record {
         chare = at_within hs f.chare f.history at;
-        stmt = stmt_is (f.item).stmt ((numbers f.chare f.history at).traps f.item (of_mem f.item (f.history).traps f.is_in));
+        stmt = stmt_is (f.item).stmt ((numbers f.chare f.history at).traps f.item f.is_in);
       })
 
   wait_fits : (w : WaitRow) → Mem w (waits_from 0 hs) → WaitFits (log_here hs (length p.entries)) w
@@ -286,7 +249,7 @@ module _ (p : Program) (limit : ℕ) (hs : List History) (small : limit ≤ 2621
       let key = names.waited f.history (member_of hs f.chare f.history at) f.item f.is_in in
       subst (WaitFits (log_here hs (length p.entries))) (sym f.is) (record {
         chare = at_within hs f.chare f.history at;
-        stmt = stmt_is (f.item).stmt ((numbers f.chare f.history at).waits f.item (of_mem f.item (f.history).waits f.is_in));
+        stmt = stmt_is (f.item).stmt ((numbers f.chare f.history at).waits f.item f.is_in);
         entry = key.entry;
         reference = key.reference;
         lacks = λ s i. let o = map_member (λ (n : Message). n.sent) (sent hs) s (subst (Mem s) (sends_are hs 0 hs) i) in
@@ -300,13 +263,13 @@ module _ (p : Program) (limit : ℕ) (hs : List History) (small : limit ≤ 2621
   traps_in_order : InOrder TrapIsLower (traps_from 0 hs)
   traps_in_order = subst (InOrder TrapIsLower) (sym (traps_gather 0 hs))
       (gather_order trap_row (λ h. h.traps) TrapIsLower 0 hs
-      (λ c j h q t. order_map (λ (x y : TrapAt). x.stmt < y.stmt) TrapIsLower (trap_row c) h.traps (λ a b i k r. inr (refl, r)) (to_order _ h.traps (numbers j h t).trap_order))
+      (λ c j h q t. order_map (λ (x y : TrapAt). x.stmt < y.stmt) TrapIsLower (trap_row c) h.traps (λ a b i k r. inr (refl, r)) (numbers j h t).trap_order)
       (λ c d a b l. inl l))
 
   waits_in_order : InOrder WaitIsUpTo (waits_from 0 hs)
   waits_in_order = subst (InOrder WaitIsUpTo) (sym (waits_gather 0 hs))
       (gather_order wait_row (λ h. h.waits) WaitIsUpTo 0 hs
-      (λ c j h q t. order_map (λ (x y : WaitAt). x.stmt ≤ y.stmt) WaitIsUpTo (wait_row c) h.waits (λ a b i k r. inr (refl, r)) (to_order _ h.waits (numbers j h t).wait_order))
+      (λ c j h q t. order_map (λ (x y : WaitAt). x.stmt ≤ y.stmt) WaitIsUpTo (wait_row c) h.waits (λ a b i k r. inr (refl, r)) (numbers j h t).wait_order)
       (λ c d a b l. inl l))
 
   waits_once : Apart one_wait (waits_from 0 hs)

@@ -7,13 +7,12 @@ use Rattle.bs_log.specs.declared.history.WaitAt.{WaitAt}
 use Rattle.bs_log.specs.declared.history.History.{History}
 use Rattle.bs_log.specs.declared.log.Log.{Log}
 use Rattle.bs_log.specs.Messages.{sent}
-use Rattle.bs_log.specs.ClosedTest.{Mem}
 use Rattle.bs_log.specs.Collected.{row_of, wait_row, waits_from, log_of}
 use Rattle.bs_log.specs.Linked.{IsAt}
 use Rattle.bs_log.specs.Valid.{IsWord, IsValid}
+use Rattle.bs_log.specs.Lists.{Mem}
 use Rattle.bs_log.proofs.ClosedTests.{in_front, behind, its_block, its_history}
 use Rattle.bs_semantics.specs.Run.{history}
-use Rattle.bs_semantics.specs.Rounds as rounds
 use Rattle.bs_semantics.specs.Rounds.{Closed, mail_to}
 use Rattle.bs_semantics.specs.Verdict.{Verdict, clean, twice, too_long, IsVerdict, is_clean, is_twice, is_too_long}
 use Rattle.bs_semantics.proofs.Confluence.{clean_closed}
@@ -45,8 +44,8 @@ wait_member (y ∷ ys) k (suc j) c h w e t m = behind (wait_row c w) (map (wait_
 module _ (p : Program) (limit : ℕ) (hs : List History) (ok : refusal p ≡ None) (closed : Closed p limit hs) (words : HasWords (log_of hs (length p.entries))) where
   named : (c : ℕ) (h : History) → IsAt hs c h → AreEntries (length p.entries) h
   named c h t =
-      let is = at_under (λ d. history p limit d (mail_to (rounds.sent hs) d)) p.chares 0 c h (subst (λ z. IsAt z c h) closed.same t) in
-      subst (AreEntries (length p.entries)) is (entries_named p limit (0 + c) (mail_to (rounds.sent hs) (0 + c)) ok)
+      let is = at_under (λ d. history p limit d (mail_to (sent hs) d)) p.chares 0 c h (subst (λ z. IsAt z c h) closed.same t) in
+      subst (AreEntries (length p.entries)) is (entries_named p limit (0 + c) (mail_to (sent hs) (0 + c)) ok)
 
   in_log : (c : ℕ) (h : History) (x : Block) → IsAt hs c h → Mem x h.blocks → Mem (row_of hs c x) (log_of hs (length p.entries)).rows
   unfolding log_of

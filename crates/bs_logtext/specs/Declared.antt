@@ -11,8 +11,8 @@ use Rattle.bs_log.specs.declared.log.Row.{Row}
 use Rattle.bs_log.specs.declared.log.WaitRow.{WaitRow}
 use Rattle.bs_log.specs.declared.log.Log.{Log}
 use Rattle.bs_log.specs.Messages.{sent}
-use Rattle.bs_log.specs.ClosedTest.{Mem}
 use Rattle.bs_log.specs.Valid.{IsWord}
+use Rattle.bs_log.specs.Lists.{Mem}
 
 -- a key of one of the entries, with a reference of 64 bits
 pub record IsKey (entries : ℕ) (k : Key) : Type 0 where

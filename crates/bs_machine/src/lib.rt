@@ -9,6 +9,7 @@ mod fault;
 mod fitted;
 mod flats;
 mod key;
+pub mod laws;
 mod machine;
 mod names;
 mod reading;

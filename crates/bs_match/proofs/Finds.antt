@@ -11,9 +11,9 @@ use Rattle.std.specs.Map.{keys_of, values_of}
 use Rattle.std.specs.BTreeMap.{BTreeMap, get_by, is_at, insert_entry, Updates}
 use Rattle.bs_log.specs.declared.history.Key.{Key}
 use Rattle.bs_log.specs.declared.history.Message.{Message}
-use Rattle.bs_semantics.specs.Rounds.{same_key}
+use Rattle.bs_log.specs.Messages.{same_key, key_cmp}
 use Rattle.bs_match.specs.Keyed.{AreKeyed}
-use Rattle.bs_match.specs.Mail.{key_cmp, HasRisingKeys, lookup, with_message}
+use Rattle.bs_match.specs.Mail.{HasRisingKeys, lookup, with_message}
 use Rattle.bs_match.proofs.Keys.{key_cmp_total, is_same, same_key_symm, equal_is}
 
 pub finds : (es : List (Key × Message)) → AreKeyed es → (k : Key) → entry.lookup (is_at (key_cmp k)) es ≡ lookup (values_of es) k

@@ -7,8 +7,7 @@ use Rattle.std.proofs.lemmas.Bool.{and_parts, and_from}
 use Rattle.std.proofs.lemmas.Bool.Decides.{Decides-int_eq}
 use Rattle.std.proofs.lemmas.Cmp.{int_eq_equiv, nat_eq_equiv, then_total, on_total}
 use Rattle.bs_log.specs.declared.history.Key.{Key}
-use Rattle.bs_semantics.specs.Rounds.{same_key}
-use Rattle.bs_match.specs.Mail.{key_cmp}
+use Rattle.bs_log.specs.Messages.{same_key, key_cmp}
 
 pub key_cmp_total : IsTotalOrder key_cmp
 key_cmp_total = then_total (on_total (λ k. k.entry) nat_cmp_total) (on_total (λ k. k.reference) int_cmp_total)

@@ -5,7 +5,9 @@ use Rattle.std.proofs.lemmas.Cmp.{nat_eq_equiv}
 use Rattle.std.specs.Option.{option_or}
 use Rattle.bs_log.specs.declared.history.Key.{Key}
 use Rattle.bs_log.specs.declared.history.Message.{Message}
-use Rattle.bs_semantics.specs.Rounds.{Mem, Apart, is_for, same_key, one_key, mail_to}
+use Rattle.bs_log.specs.Lists.{Mem, Apart}
+use Rattle.bs_log.specs.Messages.{is_for, same_key, one_key}
+use Rattle.bs_semantics.specs.Rounds.{mail_to}
 use Rattle.bs_semantics.proofs.Options.{none_some, some_same}
 use Rattle.bs_semantics.proofs.Mails.{is_for_is, found}
 use Rattle.bs_match.specs.Mail.{lookup, with_message}

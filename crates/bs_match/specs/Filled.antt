@@ -1,8 +1,8 @@
 -- A mail into which messages were put.
 use Rattle.std.specs.Prelude.{◌≡◌, ℕ, List, [], ◌∷◌, None}
 use Rattle.bs_log.specs.declared.history.Message.{Message}
+use Rattle.bs_log.specs.Lists.{Mem}
 use Rattle.bs_semantics.specs.Run.{Lookup}
-use Rattle.bs_semantics.specs.Rounds.{Mem}
 use Rattle.bs_match.specs.Mail.{with_message}
 
 -- what an empty mail finds after the messages were put, the last of the list first

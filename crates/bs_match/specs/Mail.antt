@@ -1,16 +1,9 @@
 -- What a mail holds: messages in the order of their keys, no two of one key.
 use Rattle.std.specs.Prelude.{List, [], ◌∷◌, Some, None, if◌then◌else◌, map}
-use Rattle.std.specs.Ordering.{nat_cmp, int_cmp, ordering_then}
 use Rattle.std.specs.List.Sorted.{IsStrictlySortedBy}
-use Rattle.std.specs.declared.cmp.Ordering.{Ordering}
-use Rattle.bs_log.specs.declared.history.Key.{Key}
 use Rattle.bs_log.specs.declared.history.Message.{Message}
+use Rattle.bs_log.specs.Messages.{key_cmp, same_key}
 use Rattle.bs_semantics.specs.Run.{Lookup}
-use Rattle.bs_semantics.specs.Rounds.{same_key}
-
--- keys are ordered by entry, and then by reference number
-abbrev pub key_cmp : Key → Key → Ordering
-key_cmp a b = ordering_then (nat_cmp a.entry b.entry) (int_cmp a.reference b.reference)
 
 -- the keys of the messages rise
 abbrev pub HasRisingKeys : List Message → Type 0

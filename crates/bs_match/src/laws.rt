@@ -1,7 +1,9 @@
 // How a mail is tied to the mail that a list of messages makes for a chare.
 ghost use Rattle.std.specs.Prelude.{◌≡◌, ◌↔◌, ℕ, List, [], ◌∷◌, ◌++◌, None};
 ghost use Rattle.bs_log.specs.declared.history.Message.{Message};
-ghost use Rattle.bs_semantics.specs.Rounds.{Apart, one_key, mail_to};
+ghost use Rattle.bs_log.specs.Lists.{Apart};
+ghost use Rattle.bs_log.specs.Messages.{one_key};
+ghost use Rattle.bs_semantics.specs.Rounds.{mail_to};
 ghost use Rattle.bs_match.specs.Mail.{lookup, with_message};
 ghost use Rattle.bs_match.specs.Filled.{filled, NoneRefused, AreThoseTo};
 

@@ -4,7 +4,6 @@
 //! the mail that a list of messages makes for a chare.
 #![tactic(auto)]
 
-mod copies;
 pub mod laws;
 mod mail;
 

@@ -4,8 +4,7 @@ ghost use Rattle.std.specs.Option.{option_copied};
 ghost use Rattle.bs_match.specs.Mail.{HasRisingKeys, lookup, with_message};
 ghost use Rattle.bs_match.specs.Fault.{IsFault};
 
-use crate::copies::copy_message;
-use bs_log::{Key, Message};
+use bs_log::{Key, Message, copy_message};
 use std::alloc::{AllocError, AllocFailed, Global};
 use std::collections::BTreeMap;
 use std::marker::Model;

@@ -8,12 +8,12 @@ use Rattle.std.proofs.lemmas.Option.{slice_get_within}
 use Rattle.bs_tree.specs.declared.tree.Program.{Program}
 use Rattle.bs_log.specs.declared.history.Block.{Block}
 use Rattle.bs_log.specs.declared.history.History.{History}
+use Rattle.bs_log.specs.Lists.{Mem, InOrder}
 use Rattle.bs_machine.specs.declared.fitted.Fitted.{Fitted}
 use Rattle.bs_machine.specs.Fitted.{home_of}
 use Rattle.bs_machine.proofs.Bounds.{has_bounds}
 use Rattle.bs_semantics.specs.Run.{history}
-use Rattle.bs_semantics.specs.Rounds.{Mem, chares, mail_to}
-use Rattle.bs_semantics.specs.Orderly.{InOrder}
+use Rattle.bs_semantics.specs.Rounds.{chares, mail_to}
 use Rattle.bs_semantics.specs.Serial.{Started, messages, find, ready, free, would_start, Earlier, IsEnabled, IsNext}
 use Rattle.bs_semantics.proofs.Rising.{run_rising}
 use Rattle.bs_model.specs.declared.candidates.Best.{Best}

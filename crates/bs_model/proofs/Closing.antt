@@ -4,10 +4,11 @@ use Rattle.std.proofs.Common.{◌≡◌, ◌≤◌, inl, inr, ℕ, Bool, true, f
 use Rattle.bs_tree.specs.declared.tree.Program.{Program}
 use Rattle.bs_log.specs.declared.history.Message.{Message}
 use Rattle.bs_log.specs.Size.{size_all}
+use Rattle.bs_log.specs.Lists.{InOrder, Mem, Apart}
+use Rattle.bs_log.specs.Messages.{one_key, sent}
 use Rattle.bs_machine.specs.declared.fitted.Fitted.{Fitted}
-use Rattle.bs_rounds.proofs.Origins.{Differ, origins_differ}
-use Rattle.bs_semantics.specs.Orderly.{InOrder}
-use Rattle.bs_semantics.specs.Rounds.{Mem, Apart, chares, mail_to, one_key, sent}
+use Rattle.bs_rounds.proofs.OneOrigin.{Differ, origins_differ}
+use Rattle.bs_semantics.specs.Rounds.{chares, mail_to}
 use Rattle.bs_semantics.specs.Serial.{Started, messages, histories_at}
 use Rattle.bs_semantics.specs.Starting.{AllIn, NoneEnabled}
 use Rattle.bs_semantics.proofs.Confluence.{closed_clean}

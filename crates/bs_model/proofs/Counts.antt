@@ -7,10 +7,10 @@ use Rattle.std.proofs.lemmas.Cmp.{nat_cmp_total, nat_list_cmp_total, on_total, t
 use Rattle.bs_tree.specs.declared.tree.Program.{Program}
 use Rattle.bs_log.specs.declared.history.Block.{Block}
 use Rattle.bs_log.specs.declared.history.History.{History}
+use Rattle.bs_log.specs.Lists.{Mem, InOrder}
 use Rattle.bs_semantics.specs.Run.{Lookup, history}
-use Rattle.bs_semantics.specs.Rounds.{Mem, CleanAt, from_to, mail_to}
+use Rattle.bs_semantics.specs.Rounds.{CleanAt, from_to, mail_to}
 use Rattle.bs_semantics.specs.Depth.{all_blocks}
-use Rattle.bs_semantics.specs.Orderly.{InOrder}
 use Rattle.bs_semantics.specs.Serial.{Machine, Started, messages, histories_at, started_cmp}
 use Rattle.bs_semantics.specs.Reached.{IsReached, Placed, blocks_from, placed}
 use Rattle.bs_semantics.proofs.Members.{mem_left, mem_right, mem_map, map_of, MapOf, in_order_map}

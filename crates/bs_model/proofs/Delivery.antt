@@ -8,14 +8,16 @@ use Rattle.std.specs.declared.cmp.Ordering.TheVariants.{Less}
 use Rattle.std.specs.List.{AllByRecursion}
 use Rattle.std.specs.List.Sorted.{IsStrictlySortedBy}
 use Rattle.bs_log.specs.declared.history.Message.{Message}
-use Rattle.bs_match.specs.Mail.{key_cmp, lookup, with_message}
+use Rattle.bs_log.specs.Messages.{key_cmp, one_key, same_key, AreFor}
+use Rattle.bs_log.specs.Lists.{Mem, Apart}
+use Rattle.bs_match.specs.Mail.{lookup, with_message}
 use Rattle.bs_match.proofs.Keys.{is_same, same_key_is, same_key_refl}
 use Rattle.bs_match.proofs.Sent.{apart, apart_from}
 use Rattle.bs_semantics.specs.Run.{Lookup}
-use Rattle.bs_semantics.specs.Rounds.{Mem, Apart, mail_to, one_key, same_key}
+use Rattle.bs_semantics.specs.Rounds.{mail_to}
 use Rattle.bs_semantics.proofs.Mails.{found, hits, is_for_is}
 use Rattle.bs_semantics.proofs.Members.{mem_left, mem_right, mem_cases}
-use Rattle.bs_model.specs.Mails.{mail_in, mail_at, mail_after, AreDelivered, AreFor, AreKept, CanDeliver, CanPut, IsShallow}
+use Rattle.bs_model.specs.Mails.{mail_in, mail_at, mail_after, AreDelivered, AreKept, CanDeliver, CanPut, IsShallow}
 use Rattle.bs_model.proofs.Places.{get_set_same, get_set_other, mem_at}
 
 abbrev put_one : ℕ → Lookup → Message → Lookup

@@ -4,11 +4,12 @@ use Rattle.bs_tree.specs.declared.tree.Program.{Program}
 use Rattle.bs_log.specs.declared.history.Origin.{Origin}
 use Rattle.bs_log.specs.declared.history.Message.{Message}
 use Rattle.bs_log.specs.declared.history.Block.{Block}
+use Rattle.bs_log.specs.Lists.{Mem}
 use Rattle.bs_machine.specs.declared.fitted.Fitted.{Fitted}
 use Rattle.bs_machine.specs.Fitted.{duration_of, home_of}
 use Rattle.bs_machine.proofs.Bounds.{has_bounds}
 use Rattle.bs_semantics.specs.Run.{greatest}
-use Rattle.bs_semantics.specs.Rounds.{Mem, mail_to}
+use Rattle.bs_semantics.specs.Rounds.{mail_to}
 use Rattle.bs_semantics.specs.Proper.{IsProper}
 use Rattle.bs_semantics.specs.Serial.{Started, messages, find, end_of, end_found, arrival_of, arrival_found, free, would_start}
 use Rattle.bs_semantics.proofs.Find.{found_at}

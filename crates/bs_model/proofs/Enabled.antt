@@ -5,9 +5,9 @@ use Rattle.bs_tree.specs.declared.tree.Path.{Path}
 use Rattle.bs_log.specs.declared.history.Origin.{Origin}
 use Rattle.bs_log.specs.declared.history.Message.{Message}
 use Rattle.bs_log.specs.declared.history.Block.{Block}
+use Rattle.bs_log.specs.Lists.{Mem}
 use Rattle.bs_machine.specs.declared.fitted.Fitted.{Fitted}
 use Rattle.bs_semantics.specs.Run.{greatest}
-use Rattle.bs_semantics.specs.Rounds.{Mem}
 use Rattle.bs_semantics.specs.Serial.{Started, find, end_found, arrival_found, arrival_of, ready}
 use Rattle.bs_model.specs.declared.book.Book.{Book}
 use Rattle.bs_model.specs.Book.{found}

@@ -5,13 +5,14 @@ use Rattle.bs_tree.specs.declared.tree.Program.{Program}
 use Rattle.bs_log.specs.declared.history.History.{History}
 use Rattle.bs_log.specs.declared.outcome.OutRow.{OutRow}
 use Rattle.bs_log.specs.declared.outcome.Outcome.{Outcome}
-use Rattle.bs_log.specs.Collected as log
+use Rattle.bs_log.specs.Lists.{Mem}
+use Rattle.bs_log.specs.Collected.{traps_from, waits_from}
+use Rattle.bs_log.specs.Reportable.{IsTimed, IsReportable}
 use Rattle.bs_machine.specs.declared.fitted.Fitted.{Fitted}
 use Rattle.bs_machine.proofs.Bounds.{has_bounds}
-use Rattle.bs_report.specs.Report.{IsTimed, IsReportable}
 use Rattle.bs_semantics.specs.Run.{place_by, put, put_all}
-use Rattle.bs_semantics.specs.Rounds.{Mem, CleanAt}
-use Rattle.bs_semantics.specs.Serial.{Started, Machine, Simulated, timed, Gives, starts, ends, histories_at, started_cmp, row_of, rows_of, traps_from, waits_from, outcome}
+use Rattle.bs_semantics.specs.Rounds.{CleanAt}
+use Rattle.bs_semantics.specs.Serial.{Started, Machine, Simulated, timed, Gives, starts, ends, histories_at, started_cmp, row_of, rows_of, outcome}
 use Rattle.bs_semantics.specs.Starting.{NoneEnabled}
 use Rattle.bs_semantics.specs.Reached.{IsReached, begins, goes_on}
 use Rattle.bs_semantics.proofs.Reached.{reached_clean}
@@ -49,14 +50,6 @@ unfolding machine_of
 rows_same m [] = refl
 rows_same m (x ∷ xs) = ap (λ rows. row_of (machine_of m) x ∷ rows) (rows_same m xs)
 
-traps_same : (m : Machine) (c : ℕ) (hs : List History) → log.traps_from c hs ≡ traps_from m c hs
-traps_same m c [] = refl
-traps_same m c (h ∷ hs) = ap (λ ts. map (log.trap_row c) h.traps ++ ts) (traps_same m (c + 1) hs)
-
-waits_same : (m : Machine) (c : ℕ) (hs : List History) → log.waits_from c hs ≡ waits_from m c hs
-waits_same m c [] = refl
-waits_same m c (h ∷ hs) = ap (λ ws. map (log.wait_row c) h.waits ++ ws) (waits_same m (c + 1) hs)
-
 -- what a reached state gives, the model gives
 gives_first : (p : Program) (limit : ℕ) (m : Machine) (r : Simulated) (bs : List Started) → IsReached p limit m bs → Gives p limit m bs r → Gives p limit m [] r
 gives_first p limit m r _ begins g = g
@@ -69,15 +62,15 @@ module _ (p : Program) (limit : ℕ) (m : Fitted) (n : ℕ) (clean : CleanAt p l
   its_reached : IsReached p limit (machine_of m) bs
   its_reached = reached p limit (machine_of m) n clean bs f.started
 
-  module _ (o : Outcome) (rows : o.rows ≡ map (λ (e : List ℕ × Begun). e.1.row) (keyed s.book)) (traps : o.traps ≡ log.traps_from 0 s.histories.items) (waits : o.waits ≡ log.waits_from 0 s.histories.items) where
+  module _ (o : Outcome) (rows : o.rows ≡ map (λ (e : List ℕ × Begun). e.1.row) (keyed s.book)) (traps : o.traps ≡ traps_from 0 s.histories.items) (waits : o.waits ≡ waits_from 0 s.histories.items) where
     its_rows : o.rows ≡ rows_of (machine_of m) bs
     its_rows = rows ∙ (ap (map (λ (e : List ℕ × Begun). e.1.row)) f.book ∙ rows_same m (put_all (started_cmp (machine_of m)) bs []))
 
-    its_traps : o.traps ≡ traps_from (machine_of m) 0 (histories_at p limit bs)
-    its_traps = traps ∙ (ap (log.traps_from 0) f.histories ∙ traps_same (machine_of m) 0 (histories_at p limit bs))
+    its_traps : o.traps ≡ traps_from 0 (histories_at p limit bs)
+    its_traps = traps ∙ ap (traps_from 0) f.histories
 
-    its_waits : o.waits ≡ waits_from (machine_of m) 0 (histories_at p limit bs)
-    its_waits = waits ∙ (ap (log.waits_from 0) f.histories ∙ waits_same (machine_of m) 0 (histories_at p limit bs))
+    its_waits : o.waits ≡ waits_from 0 (histories_at p limit bs)
+    its_waits = waits ∙ ap (waits_from 0) f.histories
 
     its_outcome : outcome (machine_of m) p limit bs ≡ o
     its_outcome = λ i. record { rows = sym its_rows i; traps = sym its_traps i; waits = sym its_waits i }

@@ -1,15 +1,16 @@
 -- The book's entries are the started blocks, in the order of (chare, path).
-use Rattle.std.proofs.Common.{◌≡◌, ◌⊎◌, inl, inr, ℕ, ◌==◌, Bool, true, false, cond, ◌&&◌, if◌then◌else◌, List, [], ◌∷◌, Option, Some, map, option_map, refl, sym, ap, ap₂, ◌∙◌, Ordering, Less, Equal, Greater}
-use Rattle.std.specs.Ordering.{nat_cmp, is_eq, match_ordering, ordering_reverse}
+use Rattle.std.proofs.Common.{◌≡◌, ◌⊎◌, inl, inr, ℕ, ◌==◌, Bool, true, false, cond, ◌&&◌, if◌then◌else◌, List, [], ◌∷◌, Option, Some, map, option_map, refl, sym, ap, ap₂, subst, ◌∙◌, Ordering, Less, Equal, Greater}
+use Rattle.std.specs.Ordering.{nat_cmp, is_eq, match_ordering}
 use Rattle.std.specs.Cmp.{tied_then, unsigned_ties}
 use Rattle.std.specs.Cmp.Lexicographic.{slice_cmp}
+use Rattle.std.specs.Str.{bytes_eq}
 use Rattle.std.proofs.lemmas.Cmp.{nat_eq_equiv, nat_list_cmp_total, tied_itself}
 use Rattle.std.proofs.lemmas.Map.Lookups.{exact_bytes}
+use Rattle.std.proofs.lemmas.Slice.Eq.{bytes_eq-Decides}
 use Rattle.bs_machine.specs.declared.fitted.Fitted.{Fitted}
 use Rattle.bs_semantics.specs.Run.{place_by, put, put_all}
-use Rattle.bs_semantics.specs.Rounds.{Mem}
-use Rattle.bs_semantics.specs.Orderly.{InOrder}
-use Rattle.bs_semantics.specs.Serial.{Started, same_path, find, started_cmp}
+use Rattle.bs_log.specs.Lists.{Mem, InOrder}
+use Rattle.bs_semantics.specs.Serial.{Started, find, started_cmp}
 use Rattle.bs_semantics.proofs.Sorted.{put_all_member}
 use Rattle.bs_model.specs.declared.book.Begun.{Begun}
 use Rattle.bs_model.specs.Book.{at_key, put_key}
@@ -55,16 +56,19 @@ pub at_put : (q key : List ℕ) (v : Begun) (es : List (List ℕ × Begun)) → 
 at_put q key v [] = refl
 at_put q key v (e ∷ es) = at_put_if q key v e es (put_key key v es) (cmp_keys key e.0) refl (at_put q key v es)
 
-reversed_eq : (o : Ordering) → is_eq (ordering_reverse o) ≡ is_eq o
-reversed_eq Less = refl
-reversed_eq Equal = refl
-reversed_eq Greater = refl
-
-turned : (a b : List ℕ) → is_eq (cmp_keys a b) ≡ is_eq (cmp_keys b a)
-turned a b = ap is_eq (nat_list_cmp_total.antisymm a b) ∙ reversed_eq (cmp_keys b a)
+turned : (a b : List ℕ) → is_eq (cmp_keys a b) ≡ bytes_eq b a
+turned a b = by (is_eq (cmp_keys a b)) (bytes_eq b a) refl refl
+  where
+    by : (s t : Bool) → is_eq (cmp_keys a b) ≡ s → bytes_eq b a ≡ t → s ≡ t
+    by true true e f = refl
+    by false false e f = refl
+    by true false e f = let t = (bytes_eq-Decides b a).1 (sym (is_same a b (cmp_keys a b) refl e)) in absurd (cc)
+    by false true e f =
+        let t : is_eq (cmp_keys a b) ≡ true = subst (λ z. is_eq (cmp_keys a z) ≡ true) (sym ((bytes_eq-Decides b a).0 f)) (ap is_eq (tied_itself nat_list_cmp_total a)) in
+        absurd (cc)
 
 -- a key is a chare and a path
-same_test : (c d : ℕ) (a b : List ℕ) → is_eq (cmp_keys (c ∷ a) (d ∷ b)) ≡ ((d == c) && same_path b a)
+same_test : (c d : ℕ) (a b : List ℕ) → is_eq (cmp_keys (c ∷ a) (d ∷ b)) ≡ ((d == c) && bytes_eq b a)
 same_test c d a b = sym (tied_then (nat_cmp c d) (cmp_keys a b)) ∙ ap₂ (λ s t. s && t) (sym (unsigned_ties c d) ∙ nat_eq_equiv.symm c d) (turned a b)
 
 abbrev pub key_of : Started → List ℕ
@@ -107,4 +111,4 @@ module _ (m : Fitted) where
       ap (λ es. at_key es (c ∷ path)) (entries_more b bs h.0)
       ∙ (at_put (c ∷ path) (key_of b) (begun_of m b) (map (entry_of m) (put_all order bs []))
       ∙ (ap₂ (λ t o. cond t (Some (begun_of m b)) o) (same_test c b.chare path b.block.path.0) (finds_same bs h.1 c path)
-      ∙ found_if ((b.chare == c) && same_path b.block.path.0 path) b (find bs c path)))
+      ∙ found_if ((b.chare == c) && bytes_eq b.block.path.0 path) b (find bs c path)))

@@ -8,11 +8,13 @@ use Rattle.bs_log.specs.declared.history.Message.{Message}
 use Rattle.bs_log.specs.declared.history.Sent.{Sent}
 use Rattle.bs_log.specs.declared.history.Block.{Block}
 use Rattle.bs_log.specs.declared.history.History.{History}
+use Rattle.bs_log.specs.Lists.{Mem}
+use Rattle.bs_log.specs.Messages.{AreFor}
 use Rattle.bs_machine.specs.declared.fitted.Fitted.{Fitted}
 use Rattle.bs_machine.specs.Fitted.{home_of, processors_of, duration_of}
 use Rattle.bs_machine.proofs.Bounds.{has_bounds}
 use Rattle.bs_semantics.specs.Run.{history, put_all}
-use Rattle.bs_semantics.specs.Rounds.{Mem, mail_to}
+use Rattle.bs_semantics.specs.Rounds.{mail_to}
 use Rattle.bs_semantics.specs.Proper.{IsProper}
 use Rattle.bs_semantics.specs.Serial.{Started, IsNext, messages, histories_at, find, free, started_cmp}
 use Rattle.bs_semantics.proofs.Find.{found_at}
@@ -23,7 +25,7 @@ use Rattle.bs_model.specs.declared.candidates.Next.{Next}
 use Rattle.bs_model.specs.declared.state.State.{State}
 use Rattle.bs_model.specs.Book.{at_key, found, keyed, put_key}
 use Rattle.bs_times.specs.Machine.{machine_of}
-use Rattle.bs_model.specs.Mails.{mail_at, history_at, AreDelivered, AreFor, AreHistories, AreKept, AreShallow, AreShort, CanDeliver, IsSize}
+use Rattle.bs_model.specs.Mails.{mail_at, history_at, AreDelivered, AreHistories, AreKept, AreShallow, AreShort, CanDeliver, IsSize}
 use Rattle.bs_model.specs.Next.{AreBest, IsLeastAt, best_among, best_at}
 use Rattle.bs_model.specs.Ready.{AreBooked, IsBooked, IsTimeable}
 use Rattle.bs_model.specs.Started.{AreStarted}

@@ -1,6 +1,7 @@
 -- Reading and writing at a place of a list.
 use Rattle.std.proofs.Common.{◌≡◌, ◌<◌, ◌+◌, inl, inr, ℕ, zero, suc, List, [], ◌∷◌, Some, length, slice_get, slice_set, get_or, map, refl, sym, ap, subst, ◌∙◌, arith}
-use Rattle.bs_semantics.specs.Rounds.{Mem, from_to}
+use Rattle.bs_log.specs.Lists.{Mem}
+use Rattle.bs_semantics.specs.Rounds.{from_to}
 
 pub get_set_same : {A : Type 0} (xs : List A) (i : ℕ) (v : A) → i < length xs → slice_get (slice_set xs i v) i ≡ Some v
 get_set_same [] i v h = absurd (omega (arith, h))

@@ -7,9 +7,10 @@ use Rattle.std.proofs.lemmas.Map.Lookups.{exact_bytes, exact_unsigned}
 use Rattle.bs_tree.specs.declared.tree.Program.{Program}
 use Rattle.bs_log.specs.declared.history.Message.{Message}
 use Rattle.bs_log.specs.declared.history.Block.{Block}
+use Rattle.bs_log.specs.Lists.{Mem, Apart, InOrder}
+use Rattle.bs_log.specs.Messages.{one_key}
 use Rattle.bs_semantics.specs.Run.{history}
-use Rattle.bs_semantics.specs.Rounds.{Mem, Apart, CleanAt, chares, mail_to, one_key}
-use Rattle.bs_semantics.specs.Orderly.{InOrder}
+use Rattle.bs_semantics.specs.Rounds.{CleanAt, chares, mail_to}
 use Rattle.bs_semantics.specs.Growth.{PartOf}
 use Rattle.bs_semantics.specs.Serial.{Machine, Started, messages, find, started_cmp}
 use Rattle.bs_semantics.specs.Starting.{AreBlocks}

@@ -1,19 +1,20 @@
 -- A chare whose mail and blocks stay as they were keeps its best block.
 use Rattle.std.proofs.Common.{◌≡◌, inl, inr, ℕ, ◌+◌, ◌==◌, ◌&&◌, max, Bool, true, false, if◌then◌else◌, List, [], ◌∷◌, Option, Some, None, option_map, refl, sym, ap, ap₂, subst, ◌∙◌, eqb-true}
+use Rattle.std.specs.Str.{bytes_eq}
 use Rattle.std.proofs.lemmas.Bool.{and_parts}
-use Rattle.std.proofs.lemmas.Map.Lookups.{exact_bytes}
-use Rattle.std.proofs.lemmas.Map.Views.{tells_apart}
+use Rattle.std.proofs.lemmas.Slice.Eq.{bytes_eq-Decides}
 use Rattle.bs_tree.specs.declared.tree.Program.{Program}
 use Rattle.bs_tree.specs.declared.tree.Path.{Path}
 use Rattle.bs_log.specs.declared.history.Origin.{Origin}
 use Rattle.bs_log.specs.declared.history.Message.{Message}
 use Rattle.bs_log.specs.declared.history.Block.{Block}
 use Rattle.bs_log.specs.declared.history.History.{History}
+use Rattle.bs_log.specs.Lists.{Mem}
 use Rattle.bs_machine.specs.declared.fitted.Fitted.{Fitted}
 use Rattle.bs_semantics.specs.Acts.{Parcel}
 use Rattle.bs_semantics.specs.Run.{signed, history}
-use Rattle.bs_semantics.specs.Rounds.{Mem, mail_to}
-use Rattle.bs_semantics.specs.Serial.{Started, messages, find, same_path}
+use Rattle.bs_semantics.specs.Rounds.{mail_to}
+use Rattle.bs_semantics.specs.Serial.{Started, messages, find}
 use Rattle.bs_semantics.proofs.Find.{finds}
 use Rattle.bs_semantics.proofs.Mails.{found}
 use Rattle.bs_semantics.proofs.Rests.{run_came}
@@ -52,12 +53,12 @@ find_if b o true n = absurd (n refl)
 find_if b o false n = refl
 
 find_other : (b : Started) (bs : List Started) (c : ℕ) (path : List ℕ) → (b.chare ≡ c → ⊥) → find (b ∷ bs) c path ≡ find bs c path
-find_other b bs c path n = find_if b (find bs c path) ((b.chare == c) && same_path b.block.path.0 path) (λ e. n (eqb-true _ _ (and_parts (b.chare == c) (same_path b.block.path.0 path) e).0))
+find_other b bs c path n = find_if b (find bs c path) ((b.chare == c) && bytes_eq b.block.path.0 path) (λ e. n (eqb-true _ _ (and_parts (b.chare == c) (bytes_eq b.block.path.0 path) e).0))
 
 find_there : (b : Started) (bs : List Started) (c : ℕ) (path : List ℕ) (d : Started) → find bs b.chare b.block.path.0 ≡ None → find bs c path ≡ Some d → find (b ∷ bs) c path ≡ find bs c path
-find_there b bs c path d fresh e = find_if b (find bs c path) ((b.chare == c) && same_path b.block.path.0 path) (λ t.
-    let at = and_parts (b.chare == c) (same_path b.block.path.0 path) t in
-    let same : find bs b.chare b.block.path.0 ≡ find bs c path = ap₂ (find bs) (eqb-true _ _ at.0) (tells_apart exact_bytes b.block.path.0 path at.1) in
+find_there b bs c path d fresh e = find_if b (find bs c path) ((b.chare == c) && bytes_eq b.block.path.0 path) (λ t.
+    let at = and_parts (b.chare == c) (bytes_eq b.block.path.0 path) t in
+    let same : find bs b.chare b.block.path.0 ≡ find bs c path = ap₂ (find bs) (eqb-true _ _ at.0) ((bytes_eq-Decides b.block.path.0 path).0 at.1) in
     absurd (cc))
 
 module _ (m : Fitted) (b : Started) (bs : List Started) (old new : Book) (tie : (c : ℕ) (path : List ℕ) → in_book old c path ≡ option_map (begun_of m) (find bs c path)) (tie_new : (c : ℕ) (path : List ℕ) → in_book new c path ≡ option_map (begun_of m) (find (b ∷ bs) c path)) where

@@ -10,10 +10,12 @@ use Rattle.bs_log.specs.declared.history.Message.{Message}
 use Rattle.bs_log.specs.declared.history.Block.{Block}
 use Rattle.bs_log.specs.declared.history.History.{History}
 use Rattle.bs_log.specs.Size.{size, size_all}
+use Rattle.bs_log.specs.Lists.{Mem, Apart}
+use Rattle.bs_log.specs.Messages.{one_key, same_key, sends_of, sent, AreFor}
 use Rattle.bs_machine.specs.declared.fitted.Fitted.{Fitted}
 use Rattle.bs_match.specs.Mail.{with_message}
 use Rattle.bs_semantics.specs.Run.{Lookup, history}
-use Rattle.bs_semantics.specs.Rounds.{Mem, Apart, CleanAt, chares, mail_to, one_key, same_key, sends_of, sent, round}
+use Rattle.bs_semantics.specs.Rounds.{CleanAt, chares, mail_to, round}
 use Rattle.bs_semantics.specs.Growth.{Subsequence}
 use Rattle.bs_semantics.specs.Proper.{IsProper}
 use Rattle.bs_semantics.specs.Serial.{Started, IsEnabled, IsNext, messages, histories_at, find}
@@ -31,7 +33,7 @@ use Rattle.bs_semantics.proofs.Chains.{closed_low}
 use Rattle.bs_semantics.proofs.Confluence.{clean_closed}
 use Rattle.bs_semantics.proofs.Reached.{reached_sent, reached_clean}
 use Rattle.bs_times.specs.Machine.{machine_of}
-use Rattle.bs_model.specs.Mails.{mail_at, mail_in, mail_after, AreDelivered, AreFor, AreHistories, AreKept, AreShallow, AreShort, CanDeliver, history_at}
+use Rattle.bs_model.specs.Mails.{mail_at, mail_in, mail_after, AreDelivered, AreHistories, AreKept, AreShallow, AreShort, CanDeliver, history_at}
 use Rattle.bs_model.specs.Started.{AreStarted, IsSent, one_more}
 use Rattle.bs_model.proofs.Delivery.{none_if}
 use Rattle.bs_model.proofs.Places.{at_number, numbered}

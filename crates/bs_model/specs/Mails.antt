@@ -5,9 +5,10 @@ use Rattle.bs_log.specs.declared.history.Key.{Key}
 use Rattle.bs_log.specs.declared.history.Message.{Message}
 use Rattle.bs_log.specs.declared.history.History.{History}
 use Rattle.bs_log.specs.Size.{size, size_all}
+use Rattle.bs_log.specs.Lists.{Mem, Apart}
+use Rattle.bs_log.specs.Messages.{one_key}
 use Rattle.bs_match.specs.Mail.{lookup, with_message}
 use Rattle.bs_semantics.specs.Run.{Lookup, history}
-use Rattle.bs_semantics.specs.Rounds.{Mem, Apart, one_key}
 
 -- what a list of messages holds, if there is one
 abbrev pub mail_in : Option (List Message) → Lookup
@@ -42,10 +43,6 @@ pub record CanPut (limit : ℕ) (m : Message) (mail : Lookup) : Type 0 where
 pub record CanDeliver (limit : ℕ) (mails : List (List Message)) (ms : List Message) : Type 0 where
   pub apart : Apart one_key ms
   pub each : (m : Message) → Mem m ms → CanPut limit m (mail_at mails m.sent.to)
-
--- messages go to chares
-abbrev pub AreFor : ℕ → List Message → Type 0
-AreFor count ms = (m : Message) → Mem m ms → m.sent.to < count
 
 -- no message is deeper than the greatest limit
 abbrev pub IsShallow : List Message → Type 0

@@ -1,7 +1,7 @@
 -- What the serial machine model is told to give.
 use Rattle.std.specs.Prelude.{ℕ}
 use Rattle.bs_tree.specs.declared.tree.Program.{Program}
-use Rattle.bs_report.specs.Report.{IsReportable}
+use Rattle.bs_log.specs.Reportable.{IsReportable}
 use Rattle.bs_semantics.specs.Rounds.{CleanAt}
 use Rattle.bs_semantics.specs.Serial as plain
 use Rattle.bs_model.specs.declared.simulated.Simulated.{Simulated}

@@ -2,7 +2,8 @@
 use Rattle.std.specs.Prelude.{◌≤◌, ℕ, List, [], ◌∷◌}
 use Rattle.bs_tree.specs.declared.tree.Program.{Program}
 use Rattle.bs_log.specs.declared.history.Message.{Message}
-use Rattle.bs_semantics.specs.Rounds.{Mem, Apart, one_key}
+use Rattle.bs_log.specs.Lists.{Mem, Apart}
+use Rattle.bs_log.specs.Messages.{one_key}
 use Rattle.bs_semantics.specs.Serial.{Machine, Started, IsNext, messages}
 
 -- what a block sends is given to the chares: no chare is sent a key again, and no message is deeper than the limit

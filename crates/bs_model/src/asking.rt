@@ -1,6 +1,7 @@
 // Whether a chare asks for a key twice.
 ghost use Rattle.std.specs.Prelude.{OnOk, IfErr};
-ghost use Rattle.bs_semantics.specs.Rounds.{Apart, one_asked};
+ghost use Rattle.bs_log.specs.Lists.{Apart};
+ghost use Rattle.bs_log.specs.Messages.{one_asked};
 ghost use Rattle.bs_model.specs.Asking.{AskOnce};
 ghost use Rattle.bs_model.specs.Stop.{Denies};
 

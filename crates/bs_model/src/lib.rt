@@ -6,10 +6,8 @@
 mod asking;
 mod book;
 mod candidates;
-mod copies;
 mod mails;
 mod model;
-mod outcome;
 mod ready;
 mod simulated;
 mod state;

@@ -1,9 +1,10 @@
 // The mails of the chares, and the histories under them.
 ghost use Rattle.std.specs.Prelude.{◌≡◌, ◌≤◌, ◌<◌, ℕ, false, IfOk, IfErr, OnOk, Some, length, slice_get};
 ghost use Rattle.bs_log.specs.Size.{size, size_all};
+ghost use Rattle.bs_log.specs.Messages.{AreFor};
 ghost use Rattle.bs_match.specs.Mail.{lookup, with_message};
 ghost use Rattle.bs_semantics.specs.Run.{history as history_of};
-ghost use Rattle.bs_model.specs.Mails.{AreDelivered, AreFor, AreHistories, AreKept, AreShallow, AreShort, CanDeliver, CanPut, IsShallow, IsSize, history_at};
+ghost use Rattle.bs_model.specs.Mails.{AreDelivered, AreHistories, AreKept, AreShallow, AreShort, CanDeliver, CanPut, IsShallow, IsSize, history_at};
 ghost use Rattle.bs_model.specs.Stop.{Denies};
 
 use crate::stop::Stop;

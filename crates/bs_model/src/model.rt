@@ -1,6 +1,6 @@
 // The serial machine model.
 ghost use Rattle.std.specs.Prelude.{◌≡◌, ◌≤◌, IfOk, IfErr, OnOk};
-ghost use Rattle.bs_report.specs.Report.{IsReportable};
+ghost use Rattle.bs_log.specs.Reportable.{IsReportable};
 ghost use Rattle.bs_semantics.specs.Serial.{IsSerial, timed};
 ghost use Rattle.bs_times.specs.Machine.{machine_of};
 ghost use Rattle.bs_model.specs.Simulated.{IsDecided, IsSimulated};

@@ -12,14 +12,16 @@ ghost use Rattle.bs_model.specs.Stop.{Denies, HasCleanRound};
 use crate::asking::ask_once;
 use crate::book::{Begun, Book};
 use crate::candidates::{Best, Next, best_block, choose, next_block};
-use crate::copies::{copy_messages, copy_numbers, copy_sends};
 use crate::mails::{deliver, renew, take};
-use crate::outcome::{traps, waits};
 use crate::stop::Stop;
 use bs_check::Accepted;
-use bs_log::{Block, History, OutRow, Outcome, size as size_of};
+use bs_log::{
+    Block, History, Message, OutRow, Outcome, Sent, collect_traps, collect_waits, copy_messages,
+    copy_numbers, size as size_of,
+};
 use bs_machine::Fitted;
 use bs_match::Mail;
+use bs_tree::List;
 use std::alloc::{AllocError, Global};
 
 /// What was started, and what that leads to: the last end of each processor, and of each chare its
@@ -126,7 +128,7 @@ impl State {
         } = self;
         let block = block_at(&histories[next.chare as usize], next.best.at);
         let begun = begin(alloc, machine, block, &next)?;
-        let messages = copy_messages(alloc, block.sends.as_slice())?;
+        let messages = copy_mails(alloc, block.sends.as_slice())?;
         ends[next.processor as usize] = begun.row.end;
         book.put(alloc, &block.path, begun)?;
         let mut changed = deliver(alloc, limit, &mut mails, messages)?;
@@ -170,8 +172,8 @@ impl State {
         ask_once(alloc, &histories)?;
         Ok(Outcome {
             rows: book.rows(alloc)?,
-            traps: traps(alloc, &histories)?,
-            waits: waits(alloc, &histories)?,
+            traps: collect_traps(alloc, &histories)?,
+            waits: collect_waits(alloc, &histories)?,
         })
     }
 }
@@ -197,6 +199,24 @@ fn begin(alloc: Global, machine: &Fitted, block: &Block, next: &Next) -> Result<
         },
         sends,
     })
+}
+
+// What a block sends, as its receivers get it.
+fn copy_mails(alloc: Global, messages: &[Message]) -> Result<Vec<Message>, AllocError>
+    ensures { IfOk result (λ copy. copy.items ≡ messages.now) }
+{
+    Ok(copy_messages(alloc, messages)?.into_vec())
+}
+
+// What a block sends, without the arguments.
+fn copy_sends(alloc: Global, messages: &[Message]) -> Result<List<Sent>, AllocError>
+    ensures { IfOk result (λ sends. sends ≡ map (λ m. m.sent) messages.now) }
+{
+    let mut sends = List::new(alloc);
+    for message in messages {
+        sends.push(message.sent)?;
+    }
+    Ok(sends)
 }
 
 fn push<T: Drop>(items: &mut Vec<T>, item: T) -> Result<(), AllocError>

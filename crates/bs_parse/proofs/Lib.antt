@@ -20,3 +20,4 @@ pub mod Openings
 pub mod Places
 pub mod Counted
 pub mod OneText
+pub mod SomeText

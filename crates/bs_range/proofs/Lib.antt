@@ -3,4 +3,4 @@ mod Spelled
 mod Values
 mod Acts
 mod Runs
-mod Rounds
+pub mod Rounds

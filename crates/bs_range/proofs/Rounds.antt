@@ -9,13 +9,14 @@ use Rattle.bs_log.specs.declared.history.Block.{Block}
 use Rattle.bs_log.specs.declared.history.History.{History}
 use Rattle.bs_log.specs.declared.log.Row.{Row}
 use Rattle.bs_log.specs.declared.log.WaitRow.{WaitRow}
-use Rattle.bs_log.specs.ClosedTest.{Mem}
 use Rattle.bs_log.specs.Collected.{row_of, rows_from, wait_row, waits_from, log_of}
 use Rattle.bs_log.specs.Valid.{IsWord, IsValid}
+use Rattle.bs_log.specs.Lists.{Mem}
+use Rattle.bs_log.specs.Messages.{is_for, sends_of, sent}
 use Rattle.bs_log.proofs.ClosedTests.{its_block, its_history}
 use Rattle.bs_log.proofs.Order.{map_member}
 use Rattle.bs_semantics.specs.Run.{Lookup, history}
-use Rattle.bs_semantics.specs.Rounds.{Closed, chares, from_to, histories, is_for, mail, mail_to, round, sends_of, sent}
+use Rattle.bs_semantics.specs.Rounds.{Closed, chares, from_to, histories, mail, mail_to, round}
 use Rattle.bs_semantics.specs.Verdict.{Verdict, IsVerdict, clean, is_clean, is_twice, is_too_long}
 use Rattle.bs_semantics.proofs.Confluence.{clean_closed, closed_clean}
 use Rattle.bs_check.specs.Declarations.{declared_names, has_twice, is_within}
@@ -149,7 +150,7 @@ round_declared p limit n small names = declared (length p.entries) (round p limi
 -- ---- the log of closed histories
 
 -- an accepted program keeps the limits
-kept : (p : Program) → refusal p ≡ None → Fitting p
+pub kept : (p : Program) → refusal p ≡ None → Fitting p
 kept p e = fitting p (by_limits (is_within p) (has_twice (declared_names p)) refl refl)
   where
     by_limits : (s t : Bool) → is_within p ≡ s → has_twice (declared_names p) ≡ t → is_within p ≡ true

@@ -16,8 +16,8 @@ use Rattle.bs_log.specs.declared.history.Asked.{Asked}
 use Rattle.bs_log.specs.declared.history.WaitAt.{WaitAt}
 use Rattle.bs_log.specs.declared.history.TrapAt.{TrapAt}
 use Rattle.bs_log.specs.declared.history.TrapKind.{TrapKind}
-use Rattle.bs_log.specs.ClosedTest.{Mem}
 use Rattle.bs_log.specs.Valid.{IsWord}
+use Rattle.bs_log.specs.Lists.{Mem}
 use Rattle.bs_log.proofs.ClosedTests.{either}
 use Rattle.bs_log.proofs.Order.{map_member}
 use Rattle.bs_semantics.specs.Layout.{place_of, entry_of}

@@ -3,9 +3,9 @@ ghost use Rattle.std.specs.Prelude.{◌≡◌, ◌≤◌, ◌<◌, ◌^◌, ℕ,
 ghost use Rattle.bs_tree.specs.declared.tree.Program.{Program};
 ghost use Rattle.bs_log.specs.declared.history.Message.{Message};
 ghost use Rattle.bs_log.specs.declared.history.History.{History};
-ghost use Rattle.bs_log.specs.ClosedTest.{Mem};
 ghost use Rattle.bs_log.specs.Collected.{log_of};
 ghost use Rattle.bs_log.specs.Valid.{IsValid};
+ghost use Rattle.bs_log.specs.Lists.{Mem};
 ghost use Rattle.bs_parse.specs.Text.{Spells};
 ghost use Rattle.bs_semantics.specs.Run.{Lookup, history};
 ghost use Rattle.bs_semantics.specs.Rounds.{Closed, mail, round};

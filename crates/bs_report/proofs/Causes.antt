@@ -8,9 +8,9 @@ use Rattle.bs_log.specs.declared.history.Sent.{Sent}
 use Rattle.bs_log.specs.declared.log.MailRef.{MailRef}
 use Rattle.bs_log.specs.declared.log.Row.{Row}
 use Rattle.bs_log.specs.declared.log.Log.{Log}
-use Rattle.bs_log.specs.ClosedTest.{Mem}
 use Rattle.bs_log.specs.Valid.{IsValid, row_lines}
-use Rattle.bs_line.specs.Making.{IsSend}
+use Rattle.bs_log.specs.Lists.{Mem}
+use Rattle.bs_rows.specs.Rows.{IsSend}
 use Rattle.bs_semantics.specs.Serial.{Machine}
 use Rattle.bs_settle.specs.declared.times.Times.{Times}
 use Rattle.bs_settle.specs.Timed.{numbers, starts_from}

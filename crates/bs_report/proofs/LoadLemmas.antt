@@ -9,9 +9,10 @@ use Rattle.std.proofs.lemmas.List.Elements.{All-filter, All-map, All-nil, filter
 use Rattle.std.proofs.lemmas.List.{take_more}
 use Rattle.std.proofs.lemmas.List.Sums.{sum_by-le, sum_by_push, length-filter, count_by-le-length}
 use Rattle.bs_log.specs.declared.outcome.OutRow.{OutRow}
+use Rattle.bs_log.specs.Reportable.{IsTimed}
 use Rattle.bs_report.specs.declared.processors.Load.{Load}
 use Rattle.bs_report.specs.Loads.{load_on, loads_of, no_load, load_line, IsShare}
-use Rattle.bs_report.specs.Report.{rows_on, duration_of, processors_of, processor_line, span_of, with_number, IsTimed}
+use Rattle.bs_report.specs.Report.{rows_on, duration_of, processors_of, processor_line, span_of, with_number}
 use Rattle.bs_report.proofs.Rising.{Rises, rises_more, with_number_comm, insert_into, looked_up, any_more}
 
 pub processors_rise : (rows : List OutRow) → Rises (processors_of rows)

@@ -11,6 +11,7 @@ use Rattle.bs_log.specs.declared.log.Log.{Log}
 use Rattle.bs_log.specs.declared.outcome.OutRow.{OutRow}
 use Rattle.bs_log.specs.declared.outcome.Outcome.{Outcome}
 use Rattle.bs_log.specs.Valid.{EachFrom, RowFits, IsValid}
+use Rattle.bs_log.specs.Reportable.{IsTimed, IsReportable}
 use Rattle.bs_semantics.specs.Serial.{Machine}
 use Rattle.bs_settle.specs.Timed.{AreInRange, numbers, starts_from, ends_from}
 use Rattle.bs_times.specs.Net.{Starts, HasRow, no_row, row_of, net_of}
@@ -19,7 +20,6 @@ use Rattle.bs_times.specs.Outcomes.{out_row, out_rows, outcome_of}
 use Rattle.bs_times.proofs.Found.{numbered_is}
 use Rattle.bs_times.proofs.Small.{all_out, out_count}
 use Rattle.bs_report.specs.Outcomes.{timed_rows}
-use Rattle.bs_report.specs.Report.{IsTimed, IsReportable}
 
 -- the chare of each row is below the number of chares.
 chares_below : (l : Log) (k : ℕ) (rs : List Row) → EachFrom (RowFits l) k rs → All (λ row. row.chare < l.chares) rs

@@ -1,7 +1,7 @@
 -- The text of an outcome, line by line. Each line ends with a line feed, and every number is plain
 -- decimal. docs/output.md shows the lines.
-use Rattle.std.specs.Prelude.{ℕ, ℤ, ◌+◌, ◌-◌, ◌*◌, ◌/◌, ◌^◌, ◌<◌, ◌≤◌, ◌==◌, max, List, [], ◌∷◌, ◌++◌, length, codes}
-use Rattle.std.specs.List.{All, filter, flat_map, fold, sum_by}
+use Rattle.std.specs.Prelude.{ℕ, ℤ, ◌+◌, ◌-◌, ◌*◌, ◌/◌, ◌==◌, max, List, [], ◌∷◌, ◌++◌, length, codes}
+use Rattle.std.specs.List.{filter, flat_map, fold, sum_by}
 use Rattle.std.specs.Ordering.{match_ordering, nat_cmp}
 use Rattle.std.specs.Fmt.{decimal, signed_decimal}
 use Rattle.bs_log.specs.declared.history.TrapKind.{TrapKind}
@@ -106,14 +106,3 @@ report_text outcome =
     ++ flat_map wait_line outcome.waits
     ++ span_line (span_of outcome.rows)
     ++ flat_map (processor_line outcome.rows) (processors_of outcome.rows)
-
--- a block takes at least one tick and at most 2^48, and ends before tick 2^110
-pub record IsTimed (row : OutRow) : Type 0 where
-  pub takes_time : row.start < row.end
-  pub is_short : row.end ≤ row.start + 2 ^ 48
-  pub is_early : row.end < 2 ^ 110
-
--- an outcome that can be reported: at most 262,144 blocks, each of them timed
-pub record IsReportable (outcome : Outcome) : Type 0 where
-  pub is_small : length outcome.rows ≤ 262144
-  pub is_timed : All IsTimed outcome.rows

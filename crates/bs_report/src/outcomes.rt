@@ -2,12 +2,12 @@
 ghost use Rattle.std.specs.Prelude.{◌≡◌, ◌<◌, IfOk, length};
 ghost use Rattle.std.specs.List.{All};
 ghost use Rattle.bs_log.specs.Valid.{IsValid};
+ghost use Rattle.bs_log.specs.Reportable.{IsReportable};
 ghost use Rattle.bs_settle.specs.Timed.{numbers, starts_from};
 ghost use Rattle.bs_times.specs.Machine.{machine_of};
 ghost use Rattle.bs_times.specs.Net.{Starts};
 ghost use Rattle.bs_times.specs.Outcomes.{outcome_of};
 ghost use Rattle.bs_report.specs.Outcomes.{AreEnds, timed_row, timed_rows};
-ghost use Rattle.bs_report.specs.Report.{IsReportable};
 
 use bs_log::{Log, OutRow, Outcome, Row};
 use bs_machine::Fitted;

@@ -4,8 +4,9 @@ ghost use Rattle.std.specs.BTreeMap.{get};
 ghost use Rattle.std.specs.List.{All, flat_map, list_any};
 ghost use Rattle.std.specs.List.Sorted.{IsStrictlyIncreasing};
 ghost use Rattle.bs_log.specs.declared.outcome.OutRow.{OutRow};
+ghost use Rattle.bs_log.specs.Reportable.{IsTimed};
 ghost use Rattle.std.specs.Ordering.{nat_cmp};
-ghost use Rattle.bs_report.specs.Report.{IsTimed, processors_of};
+ghost use Rattle.bs_report.specs.Report.{processors_of};
 ghost use Rattle.bs_report.specs.Loads.{no_load, loads_of, IsShare, load_line};
 
 use bs_log::OutRow;

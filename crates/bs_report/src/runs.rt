@@ -2,16 +2,16 @@
 ghost use Rattle.std.specs.Prelude.{◌≡◌, ◌<◌, ◌^◌, ◌++◌, None, IfOk, OnOk, Option, ℕ, length, map, string_bytes};
 ghost use Rattle.std.specs.List.{All};
 ghost use Rattle.bs_log.specs.Valid.{IsValid};
-ghost use Rattle.bs_line.specs.Layout.{net_on};
+ghost use Rattle.bs_rows.specs.Rows.{net_on};
 ghost use Rattle.bs_settle.specs.Timed.{numbers};
 ghost use Rattle.bs_report.specs.Headed.{by_processor, headed, heading};
 ghost use Rattle.bs_report.specs.Trace.{processor_line, run_line, start_in, traced_rows};
 
 use crate::traced::{Traced, trace_row};
-use bs_line::finding::count;
 use bs_log::Log;
 use bs_machine::Fitted;
 use bs_num::Tick;
+use bs_rows::count;
 use std::alloc::{AllocError, Global};
 use std::collections::BTreeMap;
 use std::fmt::Write;

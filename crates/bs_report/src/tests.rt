@@ -1,6 +1,6 @@
 // Reports and fault lines against texts that were worked out by hand.
 ghost use Rattle.std.specs.Prelude.{IsTrue, ◌↔◌};
-ghost use Rattle.bs_report.specs.Report.{IsTimed};
+ghost use Rattle.bs_log.specs.Reportable.{IsTimed};
 
 use crate::{Fault, end, fault_line, journal, report, trace};
 use bs_check::{CheckFault, Rule};

@@ -1,7 +1,8 @@
 // The report of an outcome.
 ghost use Rattle.std.specs.Prelude.{◌≡◌, ◌++◌, IfOk, OnOk, string_bytes};
 ghost use Rattle.std.specs.List.{flat_map};
-ghost use Rattle.bs_report.specs.Report.{IsReportable, report_text, status_line, value_line, block_line, block_lines, trap_word, trap_line, wait_line, span_of, span_line};
+ghost use Rattle.bs_log.specs.Reportable.{IsReportable};
+ghost use Rattle.bs_report.specs.Report.{report_text, status_line, value_line, block_line, block_lines, trap_word, trap_line, wait_line, span_of, span_line};
 
 use crate::ending::end;
 use crate::processors::{loads, write_loads};

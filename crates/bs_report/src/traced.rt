@@ -3,15 +3,14 @@ ghost use Rattle.std.specs.Prelude.{◌≡◌, ◌≤◌, ◌<◌, ◌^◌, leng
 ghost use Rattle.std.specs.List.{All};
 ghost use Rattle.bs_log.specs.Valid.{IsValid};
 ghost use Rattle.bs_times.specs.Times.{arrival, end_of, greatest, ready as ready_tick};
-ghost use Rattle.bs_line.specs.Layout.{net_on};
-ghost use Rattle.bs_line.specs.Making.{IsSend};
+ghost use Rattle.bs_rows.specs.Rows.{net_on, IsSend};
 ghost use Rattle.bs_settle.specs.Timed.{numbers};
 ghost use Rattle.bs_report.specs.Trace.{start_in, traced};
 
-use bs_line::finding::{duration, home, row_at, travel};
 use bs_log::{Log, MailRef};
 use bs_machine::Fitted;
 use bs_num::Tick;
+use bs_rows::{duration, home, row_at, travel};
 
 /// A row by its number, with its processor, its ready tick, and the ticks at which it starts and ends.
 #[derive(Clone, Copy, Debug, Drop)]

@@ -2,7 +2,7 @@
 ghost use Rattle.std.specs.Prelude.{◌≡◌, ◌≤◌, ◌<◌, ◌^◌, ◌==◌, ◌++◌, ◌∷◌, [], IfOk, OnOk, ℕ, length, string_bytes};
 ghost use Rattle.std.specs.List.{All, filter, flat_map};
 ghost use Rattle.bs_log.specs.Valid.{IsValid};
-ghost use Rattle.bs_line.specs.Making.{IsSend};
+ghost use Rattle.bs_rows.specs.Rows.{IsSend};
 ghost use Rattle.bs_settle.specs.Timed.{numbers};
 ghost use Rattle.bs_times.specs.Machine.{machine_of};
 ghost use Rattle.bs_times.specs.Net.{Net, Starts, row_of};
@@ -12,10 +12,10 @@ ghost use Rattle.bs_report.specs.Trace.{leaving, mail_line, mails_from, mails_of
 
 use crate::runs::{runs, write_runs};
 use crate::traced::{came, start};
-use bs_line::finding::{count, row_at, sent_at};
 use bs_log::{Log, MailRef};
 use bs_machine::Fitted;
 use bs_num::Tick;
+use bs_rows::{count, row_at, sent_at};
 use bs_settle::Times;
 use std::alloc::{AllocError, Global};
 use std::fmt::Write;

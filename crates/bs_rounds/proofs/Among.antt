@@ -2,9 +2,10 @@
 use Rattle.std.proofs.Common.{◌≡◌, ◌⊎◌, ◌<◌, inl, inr, ℕ, zero, suc, Bool, true, false, if◌then◌else◌, List, [], ◌∷◌, ◌++◌, refl, ap, length, arith}
 use Rattle.bs_log.specs.declared.history.Message.{Message}
 use Rattle.bs_log.specs.declared.history.History.{History}
-use Rattle.bs_semantics.specs.Rounds.{Mem, Each, sends_of, sent}
+use Rattle.bs_log.specs.Lists.{Mem, Each}
+use Rattle.bs_log.specs.Messages.{sends_of, sent}
+use Rattle.bs_log.specs.Histories.{no_history, history_at}
 use Rattle.bs_semantics.proofs.Members.{mem_left, mem_right, mem_cases}
-use Rattle.bs_rounds.specs.Places.{no_history, history_at}
 use Rattle.bs_rounds.specs.Posting.{flag, sent_by}
 
 pub by_marked : (marks : List Bool) (hs : List History) (m : Message) → Mem m (sent_by marks hs) → Mem m (sent hs)

@@ -6,12 +6,12 @@ use Rattle.std.specs.BTreeMap.{BTreeMap, get_by, Updates}
 use Rattle.bs_log.specs.declared.history.Key.{Key}
 use Rattle.bs_log.specs.declared.history.Asked.{Asked}
 use Rattle.bs_log.specs.declared.history.History.{History}
-use Rattle.bs_match.specs.Mail.{key_cmp}
+use Rattle.bs_log.specs.Messages.{key_cmp, same_key, one_asked}
+use Rattle.bs_log.specs.Lists.{Mem, Apart}
+use Rattle.bs_log.specs.Histories.{history_at}
 use Rattle.bs_match.proofs.Keys.{is_same}
-use Rattle.bs_semantics.specs.Rounds.{Mem, Apart, same_key, one_asked}
 use Rattle.bs_rounds.specs.declared.stop.Stop.{Stop}
 use Rattle.bs_rounds.specs.declared.stop.Stop.TheVariants.{Long, Twice, Memory}
-use Rattle.bs_rounds.specs.Places.{history_at}
 use Rattle.bs_rounds.specs.Asking.{IsAskedOnce, AreAskedOnce}
 use Rattle.bs_rounds.specs.Posting.{flag}
 

@@ -5,14 +5,16 @@ use Rattle.bs_tree.specs.declared.tree.Program.{Program}
 use Rattle.bs_log.specs.declared.history.Message.{Message}
 use Rattle.bs_log.specs.declared.history.History.{History}
 use Rattle.bs_log.specs.Size.{size, size_all}
+use Rattle.bs_log.specs.Lists.{Apart}
+use Rattle.bs_log.specs.Messages.{one_asked, AreFor}
+use Rattle.bs_log.specs.Histories.{no_history, history_at}
 use Rattle.bs_match.specs.Mail.{lookup}
 use Rattle.bs_semantics.specs.Run.{Lookup}
-use Rattle.bs_semantics.specs.Rounds.{Apart, one_asked, mail_to, round}
+use Rattle.bs_semantics.specs.Rounds.{mail_to, round}
 use Rattle.bs_rounds.specs.declared.stop.Stop.{Stop}
 use Rattle.bs_rounds.specs.declared.stop.Stop.TheVariants.{Long, Twice, Memory}
-use Rattle.bs_rounds.specs.Places.{no_history, history_at}
 use Rattle.bs_rounds.specs.Asking.{AsksTwice, AreAskedOnce}
-use Rattle.bs_rounds.specs.Posting.{AreFor, Clash, IsPosted, ArePosted, flag, held, sent_by}
+use Rattle.bs_rounds.specs.Posting.{Clash, IsPosted, ArePosted, flag, held, sent_by}
 use Rattle.bs_rounds.specs.Taking.{IsTaken}
 use Rattle.bs_rounds.specs.State.{IsAtRound, IsPassed, Becomes}
 use Rattle.bs_rounds.proofs.Begun.{round_count, too_long, targets}

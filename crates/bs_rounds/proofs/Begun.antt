@@ -7,20 +7,22 @@ use Rattle.bs_log.specs.declared.history.Key.{Key}
 use Rattle.bs_log.specs.declared.history.Message.{Message}
 use Rattle.bs_log.specs.declared.history.History.{History}
 use Rattle.bs_log.specs.Size.{size, size_all}
+use Rattle.bs_log.specs.Lists.{Mem}
+use Rattle.bs_log.specs.Messages.{sent, AreFor}
+use Rattle.bs_log.specs.Histories.{no_history, history_at}
 use Rattle.bs_check.specs.Declarations.{declared_names, has_twice, is_within}
 use Rattle.bs_check.specs.Refusal.{refusal}
 use Rattle.bs_check.proofs.Verdict.{twice_refused, limits_refused}
 use Rattle.bs_check.proofs.Fitting.{Fitting, fitting}
 use Rattle.bs_semantics.specs.Run.{Lookup, history}
-use Rattle.bs_semantics.specs.Rounds.{Mem, Undecided, mail_to, sent, mail, round, chares}
+use Rattle.bs_semantics.specs.Rounds.{Undecided, mail_to, mail, round, chares}
 use Rattle.bs_semantics.proofs.Subsequences.{member}
 use Rattle.bs_semantics.proofs.Mails.{found}
 use Rattle.bs_semantics.proofs.Proper.{run_proper}
 use Rattle.bs_semantics.proofs.Sets.{from_block}
 use Rattle.bs_semantics.proofs.Chains.{low}
 use Rattle.bs_semantics.proofs.Verdicts.{mail_grows}
-use Rattle.bs_rounds.specs.Places.{no_history, history_at}
-use Rattle.bs_rounds.specs.Posting.{flag, held, AreFor, sent_by}
+use Rattle.bs_rounds.specs.Posting.{flag, held, sent_by}
 use Rattle.bs_rounds.specs.Taking.{AreShallow, AreTaken, histories_under}
 use Rattle.bs_rounds.specs.State.{IsStale, IsAtRound}
 use Rattle.bs_rounds.proofs.Taken.{size_at, nth, count_from}

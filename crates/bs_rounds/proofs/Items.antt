@@ -4,7 +4,7 @@ use Rattle.std.proofs.lemmas.List.{drop_more, at_drop_all, get_or_read}
 use Rattle.bs_log.specs.declared.history.Block.{Block}
 use Rattle.bs_log.specs.declared.history.Message.{Message}
 use Rattle.bs_log.specs.declared.history.History.{History}
-use Rattle.bs_semantics.specs.Rounds.{sends_of}
+use Rattle.bs_log.specs.Messages.{sends_of}
 use Rattle.bs_rounds.specs.Posting.{sent_by}
 
 -- the loop's item is the head of what is left

@@ -7,7 +7,7 @@ pub mod Taken
 pub mod NamingLeast
 pub mod NamingPlaces
 pub mod NamingMarks
-pub mod Origins
+pub mod OneOrigin
 pub mod Among
 pub mod Begun
 pub mod Settled

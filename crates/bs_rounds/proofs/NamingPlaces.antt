@@ -6,10 +6,9 @@ use Rattle.std.specs.Cmp.{IsTotalOrder, nat_cmp_total, tied_then, unsigned_ties}
 use Rattle.std.specs.BTreeMap.{is_at}
 use Rattle.std.proofs.lemmas.Bool.{and_parts}
 use Rattle.std.proofs.lemmas.Cmp.{then_total, on_total, eq_by_cmp_equiv}
-use Rattle.bs_semantics.specs.Rounds.{same_key}
+use Rattle.bs_log.specs.Messages.{same_key, key_cmp}
 use Rattle.bs_semantics.specs.Verdict.{Mark, alike, second_of}
 use Rattle.bs_semantics.proofs.Options.{some_same}
-use Rattle.bs_match.specs.Mail.{key_cmp}
 use Rattle.bs_match.proofs.Keys.{key_cmp_total, is_same, same_key_is}
 use Rattle.bs_rounds.specs.declared.naming.Place.{Place}
 use Rattle.bs_rounds.specs.Naming.{place_cmp, place_of, pair}

@@ -2,13 +2,14 @@
 use Rattle.std.proofs.Common.{◌≡◌, ◌⊎◌, inl, inr, ℕ, Bool, true, false, List, [], ◌∷◌, ◌++◌, Option, Some, None, Result, Ok, Err, refl, sym, ap, subst, ◌∙◌, ◌<◌}
 use Rattle.bs_log.specs.declared.history.Key.{Key}
 use Rattle.bs_log.specs.declared.history.Message.{Message}
+use Rattle.bs_log.specs.Lists.{Mem}
+use Rattle.bs_log.specs.Messages.{AreFor}
 use Rattle.bs_semantics.specs.Run.{Lookup}
-use Rattle.bs_semantics.specs.Rounds.{Mem}
 use Rattle.bs_semantics.proofs.Members.{mem_left, mem_right, mem_cases}
 use Rattle.bs_semantics.proofs.Options.{none_some}
 use Rattle.bs_rounds.specs.declared.stop.Stop.{Stop}
 use Rattle.bs_rounds.specs.declared.stop.Stop.TheVariants.{Long, Twice, Memory}
-use Rattle.bs_rounds.specs.Posting.{AreFor, IsOneOf, IsKnown, HasNews, ArePosted, Clash, IsPosted}
+use Rattle.bs_rounds.specs.Posting.{IsOneOf, IsKnown, HasNews, ArePosted, Clash, IsPosted}
 
 pub posted_none : (F : ℕ → Lookup) (f : ℕ → Bool) → ArePosted [] F f F f
 posted_none F f = record {

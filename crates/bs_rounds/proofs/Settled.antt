@@ -6,18 +6,20 @@ use Rattle.bs_log.specs.declared.history.Key.{Key}
 use Rattle.bs_log.specs.declared.history.Message.{Message}
 use Rattle.bs_log.specs.declared.history.History.{History}
 use Rattle.bs_log.specs.Size.{size_all}
+use Rattle.bs_log.specs.Lists.{Mem, Apart, Each, InOrder}
+use Rattle.bs_log.specs.Sound.{Once}
+use Rattle.bs_log.specs.Messages.{one_key, one_asked, sends_of, sent}
+use Rattle.bs_log.specs.Histories.{history_at}
 use Rattle.bs_semantics.specs.Run.{Lookup, history}
-use Rattle.bs_semantics.specs.Rounds.{Mem, Apart, Each, Once, SameMail, Undecided, one_key, one_asked, sends_of, mail_to, sent, mail, round, chares}
-use Rattle.bs_semantics.specs.Orderly.{InOrder}
+use Rattle.bs_semantics.specs.Rounds.{SameMail, Undecided, mail_to, mail, round, chares}
 use Rattle.bs_semantics.proofs.Options.{none_some, some_same}
 use Rattle.bs_semantics.proofs.Subsequences.{member}
 use Rattle.bs_semantics.proofs.Mails.{found, hits, hits_at, is_for_is, one_lookup}
 use Rattle.bs_semantics.proofs.Verdicts.{mail_grows}
-use Rattle.bs_rounds.specs.Places.{history_at}
 use Rattle.bs_rounds.specs.Asking.{AsksTwice}
 use Rattle.bs_rounds.specs.Posting.{flag, held, sent_by, IsOneOf, IsKnown, HasNews, ArePosted, Clash}
 use Rattle.bs_rounds.specs.State.{IsStale, IsAtRound, IsPassed}
-use Rattle.bs_rounds.proofs.Origins.{Differ, origins_differ, one_place}
+use Rattle.bs_rounds.proofs.OneOrigin.{Differ, origins_differ, one_place}
 use Rattle.bs_rounds.proofs.Among.{IsStaleSend, by_marked, marked_or_stale, each_of_all, at_each, sends_at}
 use Rattle.bs_rounds.proofs.Begun.{round_at, round_count}
 

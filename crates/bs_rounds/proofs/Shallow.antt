@@ -6,9 +6,10 @@ use Rattle.std.specs.List.{AllByRecursion}
 use Rattle.std.specs.List.Sorted.{IsStrictlySortedBy}
 use Rattle.bs_log.specs.declared.history.Key.{Key}
 use Rattle.bs_log.specs.declared.history.Message.{Message}
-use Rattle.bs_match.specs.Mail.{key_cmp, HasRisingKeys, lookup}
+use Rattle.bs_log.specs.Messages.{key_cmp, same_key}
+use Rattle.bs_log.specs.Lists.{Mem}
+use Rattle.bs_match.specs.Mail.{HasRisingKeys, lookup}
 use Rattle.bs_match.proofs.Keys.{is_same, same_key_refl}
-use Rattle.bs_semantics.specs.Rounds.{Mem, same_key}
 use Rattle.bs_rounds.specs.Taking.{IsShallow}
 
 at_itself : (t : Bool) (x m : Message) (o : Option Message) → t ≡ true → x ≡ m → (if t then Some x else o) ≡ Some m

@@ -4,10 +4,11 @@ use Rattle.std.proofs.lemmas.Bool.{cases_lt}
 use Rattle.std.proofs.lemmas.List.{get_or_default, get_or-set_same, get_or-set_other}
 use Rattle.bs_log.specs.declared.history.Key.{Key}
 use Rattle.bs_log.specs.declared.history.Message.{Message}
+use Rattle.bs_log.specs.Lists.{Mem}
+use Rattle.bs_log.specs.Messages.{same_key}
 use Rattle.bs_match.specs.Mail.{lookup, with_message}
 use Rattle.bs_match.proofs.Keys.{same_key_is, same_key_refl}
 use Rattle.bs_semantics.specs.Run.{Lookup}
-use Rattle.bs_semantics.specs.Rounds.{Mem, same_key}
 use Rattle.bs_semantics.proofs.Options.{none_some, some_same}
 use Rattle.bs_rounds.specs.Posting.{flag, held, IsOneOf, IsKnown, HasNews, ArePosted, Clash}
 

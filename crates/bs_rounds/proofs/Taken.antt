@@ -7,9 +7,9 @@ use Rattle.bs_tree.specs.declared.tree.Program.{Program}
 use Rattle.bs_log.specs.declared.history.Message.{Message}
 use Rattle.bs_log.specs.declared.history.History.{History}
 use Rattle.bs_log.specs.Size.{size, size_all}
+use Rattle.bs_log.specs.Histories.{no_history, history_at}
 use Rattle.bs_semantics.specs.Run.{history}
 use Rattle.bs_semantics.specs.Rounds.{from_to, chares}
-use Rattle.bs_rounds.specs.Places.{no_history, history_at}
 use Rattle.bs_rounds.specs.Posting.{flag, held}
 use Rattle.bs_rounds.specs.Taking.{histories_under}
 

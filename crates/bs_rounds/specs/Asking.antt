@@ -2,11 +2,12 @@
 use Rattle.std.specs.Prelude.{◌≡◌, ◌<◌, ℕ, Bool, true, List, length, Result, Ok, Err}
 use Rattle.bs_log.specs.declared.history.Asked.{Asked}
 use Rattle.bs_log.specs.declared.history.History.{History}
-use Rattle.bs_semantics.specs.Rounds.{Apart, one_asked}
+use Rattle.bs_log.specs.Lists.{Apart}
+use Rattle.bs_log.specs.Messages.{one_asked}
+use Rattle.bs_log.specs.Histories.{history_at}
 use Rattle.bs_rounds.specs.declared.stop.Stop.{Stop}
 use Rattle.bs_rounds.specs.declared.stop.Stop.TheVariants.{Long, Twice, Memory}
 use Rattle.bs_rounds.specs.Posting.{flag}
-use Rattle.bs_rounds.specs.Places.{history_at}
 
 -- no key is asked for twice, or one is
 abbrev pub IsAskedOnce : List Asked → Result (Unit {0}) Stop → Type 0

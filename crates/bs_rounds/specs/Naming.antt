@@ -5,8 +5,8 @@ use Rattle.std.specs.declared.cmp.Ordering.{Ordering}
 use Rattle.std.specs.BTreeMap.{get, is_at}
 use Rattle.bs_log.specs.declared.history.Message.{Message}
 use Rattle.bs_log.specs.declared.history.Asked.{Asked}
+use Rattle.bs_log.specs.Messages.{key_cmp}
 use Rattle.bs_semantics.specs.Verdict as plain
-use Rattle.bs_match.specs.Mail.{key_cmp}
 use Rattle.bs_rounds.specs.declared.naming.Place.{Place}
 use Rattle.bs_rounds.specs.declared.naming.Mark.{Mark}
 use Rattle.bs_rounds.specs.declared.naming.Marks.{Marks}

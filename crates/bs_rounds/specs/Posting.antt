@@ -1,11 +1,12 @@
 -- What mails are like once messages were put into them.
-use Rattle.std.specs.Prelude.{◌≡◌, ◌⊎◌, ◌<◌, ℕ, Bool, true, false, if◌then◌else◌, List, [], ◌∷◌, ◌++◌, Some, None, Result, Ok, Err, get_or}
+use Rattle.std.specs.Prelude.{◌≡◌, ◌⊎◌, ℕ, Bool, true, false, if◌then◌else◌, List, [], ◌∷◌, ◌++◌, Some, None, Result, Ok, Err, get_or}
 use Rattle.bs_log.specs.declared.history.Key.{Key}
 use Rattle.bs_log.specs.declared.history.Message.{Message}
 use Rattle.bs_log.specs.declared.history.History.{History}
+use Rattle.bs_log.specs.Lists.{Mem}
+use Rattle.bs_log.specs.Messages.{sends_of}
 use Rattle.bs_match.specs.Mail.{lookup}
 use Rattle.bs_semantics.specs.Run.{Lookup}
-use Rattle.bs_semantics.specs.Rounds.{Mem, sends_of}
 use Rattle.bs_rounds.specs.declared.stop.Stop.{Stop}
 use Rattle.bs_rounds.specs.declared.stop.Stop.TheVariants.{Long, Twice, Memory}
 
@@ -16,10 +17,6 @@ held mails c = lookup (get_or mails c [])
 -- whether a chare is marked
 abbrev pub flag : List Bool → ℕ → Bool
 flag marks c = get_or marks c false
-
--- each message goes to one of so many chares
-abbrev pub AreFor : ℕ → List Message → Type 0
-AreFor count ms = (m : Message) → Mem m ms → m.sent.to < count
 
 -- what the marked of some histories send
 abbrev pub sent_by : List Bool → List History → List Message

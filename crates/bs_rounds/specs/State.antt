@@ -4,11 +4,14 @@ use Rattle.bs_tree.specs.declared.tree.Program.{Program}
 use Rattle.bs_log.specs.declared.history.Message.{Message}
 use Rattle.bs_log.specs.declared.history.History.{History}
 use Rattle.bs_log.specs.Size.{size_all}
+use Rattle.bs_log.specs.Lists.{Mem, Apart}
+use Rattle.bs_log.specs.Sound.{Once}
+use Rattle.bs_log.specs.Messages.{one_asked, sends_of}
+use Rattle.bs_log.specs.Histories.{history_at}
 use Rattle.bs_semantics.specs.Run.{history}
-use Rattle.bs_semantics.specs.Rounds.{Mem, Apart, Once, SameMail, Undecided, one_asked, sends_of, mail_to, mail, round}
+use Rattle.bs_semantics.specs.Rounds.{SameMail, Undecided, mail_to, mail, round}
 use Rattle.bs_rounds.specs.declared.stop.Stop.{Stop}
 use Rattle.bs_rounds.specs.declared.stop.Stop.TheVariants.{Long, Twice, Memory}
-use Rattle.bs_rounds.specs.Places.{history_at}
 use Rattle.bs_rounds.specs.Posting.{flag, held}
 
 -- the history of a chare that isn't marked is that under its mail, no key is asked in it twice, and what it sends is held

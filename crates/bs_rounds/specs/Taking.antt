@@ -5,12 +5,12 @@ use Rattle.bs_log.specs.declared.history.Key.{Key}
 use Rattle.bs_log.specs.declared.history.Message.{Message}
 use Rattle.bs_log.specs.declared.history.History.{History}
 use Rattle.bs_log.specs.Size.{size, size_all}
+use Rattle.bs_log.specs.Histories.{history_at}
 use Rattle.bs_semantics.specs.Run.{Lookup, history}
 use Rattle.bs_semantics.specs.Rounds.{chares}
 use Rattle.bs_rounds.specs.declared.stop.Stop.{Stop}
 use Rattle.bs_rounds.specs.declared.stop.Stop.TheVariants.{Long, Twice, Memory}
 use Rattle.bs_rounds.specs.Posting.{flag, held}
-use Rattle.bs_rounds.specs.Places.{history_at}
 
 -- no message of a mail is deeper than 262,144
 abbrev pub IsShallow : Lookup → Type 0

@@ -1,6 +1,7 @@
 // Whether a chare asks for a key twice.
 ghost use Rattle.std.specs.Prelude.{◌≡◌, length};
-ghost use Rattle.bs_semantics.specs.Rounds.{Apart, one_asked};
+ghost use Rattle.bs_log.specs.Lists.{Apart};
+ghost use Rattle.bs_log.specs.Messages.{one_asked};
 ghost use Rattle.bs_rounds.specs.Asking.{AreAskedOnce, IsAskedOnce};
 
 use crate::stop::Stop;

@@ -5,8 +5,8 @@
 
 mod answer;
 mod asking;
-mod copies;
 mod naming;
+mod origins;
 mod posting;
 mod rounds;
 mod state;

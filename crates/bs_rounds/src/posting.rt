@@ -1,13 +1,13 @@
 // What chares send is put into the mails.
 ghost use Rattle.std.specs.Prelude.{◌≡◌, ◌<◌, [], ◌∷◌, length, None, OnOk, IfErr};
 ghost use Rattle.bs_match.specs.Mail.{lookup, with_message};
-ghost use Rattle.bs_semantics.specs.Rounds.{sends_of};
+ghost use Rattle.bs_log.specs.Messages.{sends_of, AreFor};
 ghost use Rattle.bs_rounds.specs.declared.stop.Stop.TheVariants.{Memory};
-ghost use Rattle.bs_rounds.specs.Posting.{AreFor, IsPosted, flag, held, sent_by};
+ghost use Rattle.bs_rounds.specs.Posting.{IsPosted, flag, held, sent_by};
 
-use crate::copies::{copy_message, same_origin};
+use crate::origins::same_origin;
 use crate::stop::Stop;
-use bs_log::{Block, History, Message};
+use bs_log::{Block, History, Message, copy_message};
 use bs_match::{Mail, PutFault};
 use std::alloc::Global;
 

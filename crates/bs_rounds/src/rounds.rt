@@ -1,8 +1,8 @@
 // The rounds of a program, until one decides.
 ghost use Rattle.std.specs.Prelude.{◌≡◌, ◌≤◌, length, IfOk, IsNone};
 ghost use Rattle.bs_log.specs.Size.{size_all};
+ghost use Rattle.bs_log.specs.Sound.{Once};
 ghost use Rattle.bs_rounds.specs.Answer.{IsAnswer};
-ghost use Rattle.bs_semantics.specs.Rounds.{Once};
 ghost use Rattle.bs_rounds.specs.State.{IsAtRound};
 ghost use Rattle.bs_rounds.specs.Deciding.{IsDecided, NamesTwice};
 

@@ -1,7 +1,7 @@
 // What is kept between two rounds, and one round.
 ghost use Rattle.std.specs.Prelude.{◌≡◌, ◌≤◌, [], IfOk, OnOk, replicate};
-ghost use Rattle.bs_rounds.specs.Places.{no_history};
 ghost use Rattle.bs_log.specs.Size.{size_all};
+ghost use Rattle.bs_log.specs.Histories.{no_history};
 ghost use Rattle.bs_rounds.specs.State.{Becomes, IsAtRound};
 
 use crate::asking::ask_once;

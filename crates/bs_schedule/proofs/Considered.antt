@@ -4,7 +4,7 @@ use Rattle.std.proofs.lemmas.Bool.{both_ways}
 use Rattle.std.proofs.lemmas.List.{take_more}
 use Rattle.bs_schedule.specs.declared.plan.Cause.{Cause}
 use Rattle.bs_schedule.specs.declared.plan.Plan.{Plan}
-use Rattle.bs_log.specs.ClosedTest.{Mem}
+use Rattle.bs_log.specs.Lists.{Mem}
 use Rattle.bs_schedule.specs.Plan.{at, causes_of, due_of}
 use Rattle.bs_schedule.specs.Queue.{AllBegun, NextFit, CanStart, Considers, Queues}
 use Rattle.bs_times.proofs.Members.{cases_le, mem_left, mem_right, mem_cases}

@@ -6,7 +6,7 @@ use Rattle.std.proofs.lemmas.List.{get_or-set_same, get_or-set_other, length-set
 use Rattle.std.specs.declared.cmp.Ordering.TheVariants.{Less}
 use Rattle.bs_schedule.specs.declared.plan.Cause.{Cause}
 use Rattle.bs_schedule.specs.declared.plan.Plan.{Plan}
-use Rattle.bs_log.specs.ClosedTest.{Mem}
+use Rattle.bs_log.specs.Lists.{Mem}
 use Rattle.bs_times.specs.Net.{Net, Starts, HasRow}
 use Rattle.bs_times.specs.Times.{end_of, greatest}
 use Rattle.bs_schedule.specs.Plan.{at, causes_of, dependants_of, due_of, comes_at, CausesFit, IsPlan, IsSchedule}

@@ -4,7 +4,7 @@ use Rattle.std.proofs.lemmas.Bool.{cases_eq}
 use Rattle.std.proofs.lemmas.List.{take_more, get_or-set_same, get_or-set_other}
 use Rattle.bs_schedule.specs.declared.plan.Cause.{Cause}
 use Rattle.bs_schedule.specs.declared.plan.Plan.{Plan}
-use Rattle.bs_log.specs.ClosedTest.{Mem}
+use Rattle.bs_log.specs.Lists.{Mem}
 use Rattle.bs_schedule.specs.Plan.{AreRows, CausesFit, IsPlan}
 use Rattle.bs_schedule.specs.Dependants.{DependantsAre, Adds}
 use Rattle.bs_times.proofs.Members.{mem_left, mem_right, mem_cases}

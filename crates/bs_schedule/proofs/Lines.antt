@@ -1,6 +1,6 @@
 -- A schedule of the plan of one processor is its table.
 use Rattle.std.proofs.Common.{◌≡◌, ℕ, ◌+◌, ◌<◌, ◌≤◌, max, List, [], ◌∷◌, inl, inr, length, map, refl, sym, ap, ◌∙◌, arith}
-use Rattle.bs_log.specs.ClosedTest.{Mem}
+use Rattle.bs_log.specs.Lists.{Mem}
 use Rattle.bs_times.specs.Net.{Net, Starts, Ticks}
 use Rattle.bs_times.specs.Times.{Comes, First, Runs, IsOn, IsLine, greatest, end_of, ready}
 use Rattle.bs_times.proofs.Members.{mem_map, map_mem}

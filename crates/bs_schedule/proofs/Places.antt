@@ -1,6 +1,6 @@
 -- Members of a list by their places.
 use Rattle.std.proofs.Common.{◌≡◌, ℕ, zero, suc, ◌<◌, List, [], ◌∷◌, inl, inr, length, get_or, refl, sym, arith}
-use Rattle.bs_log.specs.ClosedTest.{Mem}
+use Rattle.bs_log.specs.Lists.{Mem}
 
 pub mem_place : {A : Type 0} (x : A) (xs : List A) → Mem x xs → (i : ℕ) × (i < length xs) × ((d : A) → get_or xs i d ≡ x)
 mem_place x [] m = absurd m

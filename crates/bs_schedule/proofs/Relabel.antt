@@ -2,7 +2,7 @@
 use Rattle.std.proofs.Common.{◌≡◌, ℕ, ◌+◌, max, List, [], ◌∷◌, ◌++◌, map, refl, sym, ap, ◌∙◌, arith}
 use Rattle.bs_schedule.specs.declared.plan.Cause.{Cause}
 use Rattle.bs_schedule.specs.declared.plan.Plan.{Plan}
-use Rattle.bs_log.specs.ClosedTest.{Mem}
+use Rattle.bs_log.specs.Lists.{Mem}
 use Rattle.bs_times.specs.Net.{Net, Starts, HasRow}
 use Rattle.bs_times.specs.Times.{IsConsistent, greatest, end_of, arrival, ready}
 use Rattle.bs_schedule.specs.Plan.{at, causes_of, due_of, comes_at, ends_of, IsSchedule}

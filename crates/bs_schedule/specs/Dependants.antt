@@ -1,6 +1,6 @@
 -- The rows of which each row is a cause.
 use Rattle.std.specs.Prelude.{◌≡◌, ◌≤◌, ◌<◌, ◌⊎◌, ◌↔◌, ℕ, List, [], slice_index_or}
-use Rattle.bs_log.specs.ClosedTest.{Mem}
+use Rattle.bs_log.specs.Lists.{Mem}
 use Rattle.bs_schedule.specs.declared.plan.Cause.{Cause}
 use Rattle.bs_schedule.specs.Plan.{causing}
 

@@ -1,6 +1,6 @@
 -- The plan of the rows of one processor, which have numbers of their own there.
 use Rattle.std.specs.Prelude.{◌≡◌, ◌≤◌, ◌<◌, ℕ, List, map, length}
-use Rattle.bs_log.specs.ClosedTest.{Mem}
+use Rattle.bs_log.specs.Lists.{Mem}
 use Rattle.bs_times.specs.Net.{Net, Ticks}
 use Rattle.bs_times.specs.Times.{IsOn, greatest}
 use Rattle.bs_schedule.specs.declared.plan.Cause.{Cause}

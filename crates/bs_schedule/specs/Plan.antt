@@ -1,7 +1,7 @@
 -- Plans: rows with their processors, durations and causes, and when they start. Rows are numbered from 1, and place 0 of
 -- each list isn't used.
 use Rattle.std.specs.Prelude.{◌≡◌, ◌≤◌, ◌<◌, ◌+◌, ◌^◌, ◌↔◌, ℕ, max, List, [], map, length, slice_index_or}
-use Rattle.bs_log.specs.ClosedTest.{Mem}
+use Rattle.bs_log.specs.Lists.{Mem}
 use Rattle.bs_times.specs.Net.{Starts}
 use Rattle.bs_times.specs.Times.{greatest, Runs}
 use Rattle.bs_schedule.specs.declared.plan.Cause.{Cause}

@@ -6,7 +6,9 @@ use Rattle.bs_log.specs.declared.history.Block.{Block}
 use Rattle.bs_log.specs.declared.history.Message.{Message}
 use Rattle.bs_log.specs.declared.history.Asked.{Asked}
 use Rattle.bs_log.specs.declared.history.History.{History}
-use Rattle.bs_semantics.specs.Rounds.{Mem, Apart, Each, Once, one_key, one_asked, same_key, sends_of, sent}
+use Rattle.bs_log.specs.Lists.{Mem, Apart, Each}
+use Rattle.bs_log.specs.Sound.{Once}
+use Rattle.bs_log.specs.Messages.{one_key, one_asked, same_key, sends_of, sent}
 use Rattle.bs_semantics.specs.Verdict.{At, Twice, Mark, marks_of_sends, marks_of_blocks, marks_of_asked, sent_marks, asked_marks, alike, second_of, least, first_twice, ambiguous}
 use Rattle.bs_semantics.proofs.Options.{none_some}
 use Rattle.bs_semantics.proofs.Members.{mem_left, mem_cases}

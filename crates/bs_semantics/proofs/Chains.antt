@@ -10,8 +10,10 @@ use Rattle.bs_log.specs.declared.history.History.{History}
 use Rattle.bs_semantics.specs.Value.{Cells}
 use Rattle.bs_semantics.specs.Acts.{Tally}
 use Rattle.bs_semantics.specs.Run.{Lookup, Run, State, Causes, serial, from_end, after, recelled, both, held, held_and, go_on, with_mail, alone, depth_of, run, start}
-use Rattle.bs_semantics.specs.Rounds.{Mem, mail_to, sent, chares, histories, Closed}
+use Rattle.bs_semantics.specs.Rounds.{mail_to, chares, histories, Closed}
 use Rattle.bs_log.specs.Size.{size_all}
+use Rattle.bs_log.specs.Lists.{Mem}
+use Rattle.bs_log.specs.Messages.{sent}
 use Rattle.bs_semantics.specs.Depth.{all_blocks}
 use Rattle.bs_semantics.specs.Starting.{AllIn}
 use Rattle.bs_semantics.proofs.Options.{none_some, some_same}

@@ -7,10 +7,13 @@ use Rattle.bs_log.specs.declared.history.Block.{Block}
 use Rattle.bs_log.specs.declared.history.History.{History}
 use Rattle.bs_semantics.specs.Acts.{Parcel}
 use Rattle.bs_semantics.specs.Run.{Lookup, signed, history}
-use Rattle.bs_semantics.specs.Rounds.{Mem, Apart, Once, is_for, one_key, mail_to, sent, from_to, histories, Closed, SameMessages}
+use Rattle.bs_semantics.specs.Rounds.{mail_to, from_to, histories, Closed, SameMessages}
 use Rattle.bs_log.specs.Size.{size_all}
+use Rattle.bs_log.specs.Lists.{Mem, Apart}
+use Rattle.bs_log.specs.Sound.{Once, CausesBefore, Numbered, IsSound, AreSound}
+use Rattle.bs_log.specs.Messages.{is_for, one_key, sent}
 use Rattle.bs_semantics.specs.Orderly.{EachRestsOn}
-use Rattle.bs_semantics.specs.ClosedTest.{CausesBefore, Numbered, IsSound, AreSound, Passes}
+use Rattle.bs_semantics.specs.ClosedTest.{Passes}
 use Rattle.bs_semantics.proofs.Options.{none_some}
 use Rattle.bs_semantics.proofs.Mails.{found, hits_at, is_for_is, same_messages}
 use Rattle.bs_semantics.proofs.Rising.{run_rising}

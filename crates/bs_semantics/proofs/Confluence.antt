@@ -4,8 +4,11 @@ use Rattle.std.proofs.lemmas.Bool.{cases_lt}
 use Rattle.bs_tree.specs.declared.tree.Program.{Program}
 use Rattle.bs_log.specs.declared.history.Message.{Message}
 use Rattle.bs_log.specs.declared.history.History.{History}
-use Rattle.bs_semantics.specs.Rounds.{Mem, Apart, Once, one_key, mail_to, SameMail, sent, chares, histories, mail, round, CleanAt, Closed}
+use Rattle.bs_semantics.specs.Rounds.{mail_to, SameMail, chares, histories, mail, round, CleanAt, Closed}
 use Rattle.bs_log.specs.Size.{size_all}
+use Rattle.bs_log.specs.Lists.{Mem, Apart}
+use Rattle.bs_log.specs.Sound.{Once}
+use Rattle.bs_log.specs.Messages.{one_key, sent}
 use Rattle.bs_semantics.specs.Growth.{Subsequence, PartOf}
 use Rattle.bs_semantics.specs.Depth.{HoldsBelow}
 use Rattle.bs_semantics.proofs.Subsequences.{empty, not_longer, apart, all_of}

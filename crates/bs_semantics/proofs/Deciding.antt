@@ -10,8 +10,9 @@ use Rattle.bs_tree.specs.declared.tree.Program.{Program}
 use Rattle.bs_tree.specs.declared.tree.Path.{Path}
 use Rattle.bs_log.specs.declared.history.Block.{Block}
 use Rattle.bs_log.specs.Size.{size_all}
+use Rattle.bs_log.specs.Lists.{Mem}
 use Rattle.bs_semantics.specs.Run.{history}
-use Rattle.bs_semantics.specs.Rounds.{Mem, mail_to}
+use Rattle.bs_semantics.specs.Rounds.{mail_to}
 use Rattle.bs_semantics.specs.Verdict.{Twice, ambiguous}
 use Rattle.bs_semantics.specs.Serial.{Machine, Started, messages, histories_at, IsClean, find, IsEnabled, ready, free, would_start, Earlier, IsNext}
 use Rattle.bs_semantics.specs.Starting.{NoneEnabled}

@@ -8,10 +8,10 @@ use Rattle.bs_log.specs.declared.history.Key.{Key}
 use Rattle.bs_log.specs.declared.history.Message.{Message}
 use Rattle.bs_log.specs.declared.history.Asked.{Asked}
 use Rattle.bs_log.specs.declared.history.WaitAt.{WaitAt}
+use Rattle.bs_log.specs.Lists.{Mem}
 use Rattle.bs_semantics.specs.Value.{Cells}
 use Rattle.bs_semantics.specs.Acts.{Tally}
 use Rattle.bs_semantics.specs.Run.{Lookup, Run, State, Causes, serial, after, from_end, then_do, with_cells, recelled, both, join, held, held_and, missing, go_on, ask, all_asked, all_waits, with_mail, union, depth_of, meant, run, start}
-use Rattle.bs_semantics.specs.Rounds.{Mem}
 use Rattle.bs_semantics.specs.Growth.{PartOf, RunWithin}
 use Rattle.bs_semantics.specs.Depth.{HoldsBelow}
 use Rattle.bs_semantics.proofs.Options.{none_some, some_same}

@@ -1,7 +1,6 @@
 -- A list whose items differ, and are all in another list, is no longer than that.
 use Rattle.std.proofs.Common.{◌≡◌, ◌≤◌, inl, inr, suc, List, [], ◌∷◌, refl, sym, ap, ◌∙◌, length, arith, zero-le}
-use Rattle.bs_semantics.specs.Rounds.{Mem}
-use Rattle.bs_semantics.specs.Orderly.{InOrder}
+use Rattle.bs_log.specs.Lists.{Mem, InOrder}
 
 -- a list without one of its items
 pub record Without {A : Type 0} (x : A) (ys : List A) : Type 0 where

@@ -3,9 +3,11 @@ use Rattle.std.proofs.Common.{refl, sym, subst, ◌<◌, arith, ◌≡◌, ◌�
 use Rattle.bs_tree.specs.declared.tree.Op2.TheVariants.{Sub}
 use Rattle.bs_log.specs.declared.history.History.{History}
 use Rattle.bs_log.specs.Size.{size_all}
+use Rattle.bs_log.specs.Messages.{sent}
+use Rattle.bs_log.specs.Sound.{Once}
 use Rattle.bs_semantics.specs.Value.{Cells}
 use Rattle.bs_semantics.specs.Acts.{block_of, Parcel}
-use Rattle.bs_semantics.specs.Rounds.{mail, mail_to, round, sent, histories, Once, Undecided, CleanAt}
+use Rattle.bs_semantics.specs.Rounds.{mail, mail_to, round, histories, Undecided, CleanAt}
 use Rattle.bs_semantics.specs.Verdict.{is_clean, is_twice}
 use Rattle.bs_semantics.specs.Verdict as verdicts
 use Rattle.bs_semantics.specs.Examples.{number, variable, this, two, work, emit, send, x, go, key, path, exchange, message_of, both_histories, ExchangeRuns, sends_twice, sent_by_both, SendsTwice, asks_twice, asked_by_both, AsksTwice, waits_both, waiting, WaitsBoth}

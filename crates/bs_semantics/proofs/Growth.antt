@@ -7,9 +7,9 @@ use Rattle.bs_log.specs.declared.history.Key.{Key}
 use Rattle.bs_log.specs.declared.history.Message.{Message}
 use Rattle.bs_log.specs.declared.history.Asked.{Asked}
 use Rattle.bs_log.specs.declared.history.WaitAt.{WaitAt}
+use Rattle.bs_log.specs.Messages.{sends_of}
 use Rattle.bs_semantics.specs.Value.{Cells}
 use Rattle.bs_semantics.specs.Run.{Lookup, Run, State, after, from_end, then_do, with_cells, recelled, both, join, held, held_and, missing, go_on, ask, after_asking, all_asked, all_waits, meant, run, start, to_history}
-use Rattle.bs_semantics.specs.Rounds.{sends_of}
 use Rattle.bs_semantics.specs.Growth.{Subsequence, none, keep, skip, PartOf, RunWithin, RunGrows, HistoryWithin, HistoryGrows}
 use Rattle.bs_semantics.proofs.Subsequences.{whole, empty, beside, longer}
 use Rattle.bs_semantics.proofs.Options.{none_some}

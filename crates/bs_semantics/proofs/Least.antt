@@ -4,7 +4,7 @@ use Rattle.std.specs.Ordering.{is_gt, ordering_reverse, ordering_then, MatchOrde
 use Rattle.std.specs.Cmp.{IsTotalOrder}
 use Rattle.std.proofs.lemmas.Bool.{false≢true}
 use Rattle.std.proofs.lemmas.Cmp.{tied_itself, upto, ranked}
-use Rattle.bs_semantics.specs.Rounds.{Mem}
+use Rattle.bs_log.specs.Lists.{Mem}
 
 -- it holds, or it doesn't
 abbrev pub Decided : Type 0 → Type 0

@@ -5,8 +5,10 @@ use Rattle.std.proofs.lemmas.Bool.Decides.{Decides-int_eq}
 use Rattle.std.proofs.lemmas.Cmp.{int_eq_equiv, nat_eq_equiv}
 use Rattle.bs_log.specs.declared.history.Key.{Key}
 use Rattle.bs_log.specs.declared.history.Message.{Message}
+use Rattle.bs_log.specs.Lists.{Mem, Apart}
+use Rattle.bs_log.specs.Messages.{is_for, same_key, one_key}
 use Rattle.bs_semantics.specs.Run.{Lookup}
-use Rattle.bs_semantics.specs.Rounds.{Mem, Apart, is_for, same_key, one_key, mail_to, SameMail}
+use Rattle.bs_semantics.specs.Rounds.{mail_to, SameMail}
 use Rattle.bs_semantics.specs.Growth.{Subsequence, none, keep, skip, PartOf}
 use Rattle.bs_semantics.proofs.Options.{none_some, some_same}
 use Rattle.bs_semantics.proofs.Subsequences.{member}

@@ -1,7 +1,6 @@
 -- Members of lists that are joined or mapped, and lists in order.
 use Rattle.std.proofs.Common.{◌≡◌, ◌⊎◌, inl, inr, List, [], ◌∷◌, ◌++◌, refl, sym, ap, subst, map}
-use Rattle.bs_semantics.specs.Rounds.{Mem}
-use Rattle.bs_semantics.specs.Orderly.{InOrder}
+use Rattle.bs_log.specs.Lists.{Mem, InOrder}
 
 pub mem_left : {A : Type 0} (x : A) (xs ys : List A) → Mem x xs → Mem x (xs ++ ys)
 mem_left x [] ys m = absurd m

@@ -14,12 +14,12 @@ use Rattle.bs_log.specs.declared.history.Asked.{Asked}
 use Rattle.bs_log.specs.declared.history.WaitAt.{WaitAt}
 use Rattle.bs_log.specs.declared.history.TrapAt.{TrapAt}
 use Rattle.bs_log.specs.declared.history.TrapKind.{TrapKind}
+use Rattle.bs_log.specs.Lists.{Mem, InOrder}
 use Rattle.bs_semantics.specs.Layout.{place_of}
 use Rattle.bs_semantics.specs.Value.{Value, value_of}
 use Rattle.bs_semantics.specs.Acts.{Tally, block_of}
 use Rattle.bs_semantics.specs.Run.{Lookup, Run, State, Does, Meant, ends, halts, trapped, after, from_end, with, branch, serial, in_turn, both, join, parts, no_part, overlap, turns, assign, no_step, held, missing, all_asked, all_waits, go_on, took, keys_of, set_cell, counts, count_step, does_step, meant_step, meant, run, start, history}
-use Rattle.bs_semantics.specs.Rounds.{Mem}
-use Rattle.bs_semantics.specs.Orderly.{InOrder, IsNumbered}
+use Rattle.bs_semantics.specs.Orderly.{IsNumbered}
 use Rattle.bs_semantics.proofs.Options.{none_some}
 use Rattle.bs_semantics.proofs.Members.{mem_cases, in_order_both}
 

@@ -11,11 +11,10 @@ use Rattle.bs_log.specs.declared.history.Message.{Message}
 use Rattle.bs_log.specs.declared.history.Block.{Block}
 use Rattle.bs_log.specs.declared.history.TrapKind.{TrapKind}
 use Rattle.bs_log.specs.declared.history.TrapKind.TheVariants.{Target, BytesRange, WorkRange, CostRange, Steps}
+use Rattle.bs_log.specs.Lists.{Mem, InOrder}
 use Rattle.bs_semantics.specs.Layout.{place_of, entry_of}
 use Rattle.bs_semantics.specs.Value.{Cells, value_of, is_zero, indexed}
 use Rattle.bs_semantics.specs.Acts.{Parcel, Tally, Done, Acting, with_value, stepped, do_all, do_else, times, count_turns, values_of, upto, bytes_value, choose_acts, worked, act_step, act_of, block_of}
-use Rattle.bs_semantics.specs.Rounds.{Mem}
-use Rattle.bs_semantics.specs.Orderly.{InOrder}
 use Rattle.bs_semantics.specs.Run.{Lookup, Run, State, Causes, depth_of, signed, serial, from_end, after, held, go_on, run, start}
 use Rattle.bs_semantics.specs.Proper.{IsSend, IsProper}
 use Rattle.bs_semantics.proofs.Members.{mem_cases, in_order_both}

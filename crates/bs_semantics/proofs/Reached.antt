@@ -10,11 +10,13 @@ use Rattle.bs_tree.specs.declared.tree.Program.{Program}
 use Rattle.bs_log.specs.declared.history.Message.{Message}
 use Rattle.bs_log.specs.declared.history.Block.{Block}
 use Rattle.bs_log.specs.declared.outcome.Outcome.{Outcome}
+use Rattle.bs_log.specs.Lists.{Mem, InOrder}
+use Rattle.bs_log.specs.Messages.{sent}
+use Rattle.bs_log.specs.Collected.{traps_from, waits_from}
 use Rattle.bs_semantics.specs.Run.{Lookup, history, put_all}
-use Rattle.bs_semantics.specs.Rounds.{Mem, mail_to, sent, chares, from_to, round, CleanAt}
-use Rattle.bs_semantics.specs.Orderly.{InOrder}
+use Rattle.bs_semantics.specs.Rounds.{mail_to, chares, from_to, round, CleanAt}
 use Rattle.bs_semantics.specs.Growth.{PartOf}
-use Rattle.bs_semantics.specs.Serial.{Machine, Started, Simulated, timed, unclean, Gives, stops, ends, starts, messages, histories_at, find, IsClean, IsEnabled, started_cmp, traps_from, waits_from, outcome}
+use Rattle.bs_semantics.specs.Serial.{Machine, Started, Simulated, timed, unclean, Gives, stops, ends, starts, messages, histories_at, find, IsClean, IsEnabled, started_cmp, outcome}
 use Rattle.bs_semantics.specs.Starting.{AreBlocks, NoneEnabled, AllIn}
 use Rattle.bs_semantics.specs.Reached.{IsReached, begins, goes_on, Placed, blocks_from, placed, Shows}
 use Rattle.bs_semantics.proofs.Options.{none_some}
@@ -206,8 +208,8 @@ module _ (p : Program) (limit : ℕ) (m : Machine) (bs : List Started) (r : IsRe
           started = in_order;
           blocks = all_placed none ∙ ap (blocks_from 0) c.2;
           rows = refl;
-          traps = ap (traps_from m 0) c.2;
-          waits = ap (waits_from m 0) c.2;
+          traps = ap (traps_from 0) c.2;
+          waits = ap (waits_from 0) c.2;
         },
       )
 

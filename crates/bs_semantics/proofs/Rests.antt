@@ -7,10 +7,10 @@ use Rattle.bs_log.specs.declared.history.Origin.{Origin}
 use Rattle.bs_log.specs.declared.history.Message.{Message}
 use Rattle.bs_log.specs.declared.history.Block.{Block}
 use Rattle.bs_log.specs.declared.history.WaitAt.{WaitAt}
+use Rattle.bs_log.specs.Lists.{Mem}
 use Rattle.bs_semantics.specs.Value.{Cells}
 use Rattle.bs_semantics.specs.Acts.{Tally}
 use Rattle.bs_semantics.specs.Run.{Lookup, Run, State, Cause, Causes, cause_cmp, origin_cmp, union, greatest, serial, made, alone, from_end, after, recelled, both, held, held_and, missing, go_on, all_waits, with_mail, run, start}
-use Rattle.bs_semantics.specs.Rounds.{Mem}
 use Rattle.bs_semantics.specs.Orderly.{EachRestsOn, CameBy}
 use Rattle.bs_semantics.proofs.Options.{none_some, some_same}
 use Rattle.bs_semantics.proofs.Sorted.{put_all_member}

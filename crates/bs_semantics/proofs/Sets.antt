@@ -5,8 +5,10 @@ use Rattle.bs_log.specs.declared.history.Block.{Block}
 use Rattle.bs_log.specs.declared.history.Message.{Message}
 use Rattle.bs_log.specs.declared.history.History.{History}
 use Rattle.bs_semantics.specs.Run.{Lookup, run, history}
-use Rattle.bs_semantics.specs.Rounds.{Mem, Apart, Each, Once, one_key, one_asked, sends_of, sent}
 use Rattle.bs_log.specs.Size.{block_size, size, size_all}
+use Rattle.bs_log.specs.Lists.{Mem, Apart, Each}
+use Rattle.bs_log.specs.Sound.{Once}
+use Rattle.bs_log.specs.Messages.{one_key, one_asked, sends_of, sent}
 use Rattle.bs_semantics.specs.Growth.{Subsequence, none, PartOf, HistoryWithin}
 use Rattle.bs_semantics.specs.Depth.{HoldsBelow}
 use Rattle.bs_semantics.proofs.Subsequences.{beside, not_longer, apart}

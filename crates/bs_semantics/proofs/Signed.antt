@@ -3,9 +3,9 @@ use Rattle.std.proofs.Common.{◌≡◌, ◌⊎◌, inl, inr, ℕ, ◌+◌, List
 use Rattle.bs_tree.specs.declared.tree.Program.{Program}
 use Rattle.bs_log.specs.declared.history.Block.{Block}
 use Rattle.bs_log.specs.declared.history.Message.{Message}
+use Rattle.bs_log.specs.Lists.{Mem}
 use Rattle.bs_semantics.specs.Acts.{Tally, Parcel}
 use Rattle.bs_semantics.specs.Run.{Lookup, Run, State, Causes, signed, serial, from_end, after, held, go_on, run, start}
-use Rattle.bs_semantics.specs.Rounds.{Mem}
 use Rattle.bs_semantics.proofs.Members.{mem_cases}
 use Rattle.bs_semantics.proofs.Kept.{Closure, list_kept}
 

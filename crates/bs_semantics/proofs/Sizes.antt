@@ -5,7 +5,7 @@ use Rattle.std.specs.Prelude.{sum_by}
 use Rattle.bs_log.specs.declared.history.Block.{Block}
 use Rattle.bs_log.specs.declared.history.History.{History}
 use Rattle.bs_log.specs.Size.{block_size, size, size_all}
-use Rattle.bs_semantics.specs.Rounds.{sends_of, sent}
+use Rattle.bs_log.specs.Messages.{sends_of, sent}
 use Rattle.bs_semantics.specs.Growth.{Subsequence, none, keep, skip}
 use Rattle.bs_semantics.specs.Depth.{all_blocks}
 

@@ -7,7 +7,8 @@ use Rattle.std.proofs.lemmas.Cmp.{tied_itself}
 use Rattle.std.proofs.lemmas.List.{length-map}
 use Rattle.bs_tree.specs.declared.tree.Program.{Program}
 use Rattle.bs_log.specs.declared.history.History.{History}
-use Rattle.bs_semantics.specs.Rounds.{Mem, CleanAt}
+use Rattle.bs_log.specs.Lists.{Mem}
+use Rattle.bs_semantics.specs.Rounds.{CleanAt}
 use Rattle.bs_semantics.specs.Depth.{all_blocks}
 use Rattle.bs_semantics.specs.Serial.{Machine, Started, Simulated, timed, unclean, Gives, stops, ends, starts, IsSerial, IsClean, IsNext, histories_at, started_cmp, outcome}
 use Rattle.bs_semantics.specs.Starting.{NoneEnabled}

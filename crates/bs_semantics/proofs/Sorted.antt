@@ -5,9 +5,9 @@ use Rattle.std.specs.Cmp.{IsTotalOrder}
 use Rattle.std.specs.Cmp.Lexicographic.{slice_cmp}
 use Rattle.std.proofs.lemmas.Cmp.{tied_itself, nat_list_cmp_total, on_total}
 use Rattle.bs_log.specs.declared.history.Block.{Block}
+use Rattle.bs_log.specs.Lists.{Mem, InOrder}
+use Rattle.bs_log.specs.Rising.{Rising}
 use Rattle.bs_semantics.specs.Run.{place_by, put, put_all}
-use Rattle.bs_semantics.specs.Rounds.{Mem}
-use Rattle.bs_semantics.specs.Orderly.{InOrder, Rising}
 
 -- a member of a set put together is one of both
 pub put_member : {A : Type 0} (cmp : A → A → Ordering) (a x : A) (ys : List A) → Mem x (put cmp a ys) → (x ≡ a) ⊎ Mem x ys

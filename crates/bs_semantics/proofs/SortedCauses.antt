@@ -12,12 +12,16 @@ use Rattle.bs_log.specs.declared.history.Origin.{Origin}
 use Rattle.bs_log.specs.declared.history.Message.{Message}
 use Rattle.bs_log.specs.declared.history.Block.{Block}
 use Rattle.bs_log.specs.declared.history.History.{History}
+use Rattle.bs_log.specs.Lists.{Mem, InOrder}
+use Rattle.bs_log.specs.Messages.{sent}
+use Rattle.bs_log.specs.Paths.{IsBelow}
+use Rattle.bs_log.specs.Rising.{Rising, IsBefore, CausesRise}
 use Rattle.bs_semantics.specs.Value.{Cells}
 use Rattle.bs_semantics.specs.Acts.{Tally, Parcel}
 use Rattle.bs_semantics.specs.Run.{Lookup, Run, State, Cause, Causes, cause_cmp, origin_cmp, place_by, put, put_all, union, signed, serial, made, alone, from_end, after, recelled, both, held, go_on, with_mail, run, start}
-use Rattle.bs_semantics.specs.Rounds.{Mem, mail_to, sent, chares, histories, Closed}
+use Rattle.bs_semantics.specs.Rounds.{mail_to, chares, histories, Closed}
 use Rattle.bs_semantics.specs.Depth.{all_blocks}
-use Rattle.bs_semantics.specs.Orderly.{IsBelow, InOrder, Rising, CameBy, IsBefore, HasSortedCauses, PlacesHaveOneDepth}
+use Rattle.bs_semantics.specs.Orderly.{CameBy, PlacesHaveOneDepth}
 use Rattle.bs_semantics.proofs.Options.{none_some, some_same}
 use Rattle.bs_semantics.proofs.Members.{mem_left, mem_right, mem_cases, in_order_map}
 use Rattle.bs_semantics.proofs.Sorted.{put_member, put_all_member, one_at}
@@ -130,7 +134,7 @@ module _ (all : List Block) (rise : Rising all) (mail : Lookup) (one : PlacesHav
     messages : InOrder IsBefore k.mail
 
   record Sound (xs : List Block) (end : Option State) : Type 0 where
-    blocks : (x : Block) → Mem x xs → HasSortedCauses x
+    blocks : (x : Block) → Mem x xs → CausesRise x
     ends : (e : State) → end ≡ Some e → Good e.causes
 
   abbrev Among : List Block → Type 0
@@ -151,14 +155,14 @@ module _ (all : List Block) (rise : Rising all) (mail : Lookup) (one : PlacesHav
       block : Block
       block = made this n path s.causes t
 
-      sorted : HasSortedCauses (made this n path s.causes t)
+      sorted : CausesRise (made this n path s.causes t)
       sorted = record {
         after = in_order_map {B = Path} (λ c. record { 0 = c.path }) (λ (a b : Cause). IsBelow a.path b.path) (λ q r. IsBelow q.0 r.0) (λ a b l. l) s.causes.after g.after;
         mail = g.messages;
       }
 
-      blocks : (x : Block) → Mem x (serial this n path s (Ok t)).blocks → HasSortedCauses x
-      blocks x (inl e) = subst HasSortedCauses (sym e) sorted
+      blocks : (x : Block) → Mem x (serial this n path s (Ok t)).blocks → CausesRise x
+      blocks x (inl e) = subst CausesRise (sym e) sorted
       blocks x (inr m) = absurd m
 
       known : (c : Cause) → Mem c (alone path s.causes).after → Stood all c
@@ -168,7 +172,7 @@ module _ (all : List Block) (rise : Rising all) (mail : Lookup) (one : PlacesHav
       last : Good (alone path s.causes)
       last = record { known = known; after = ((λ y m. absurd m), tt); came = λ o m. absurd m; messages = tt }
 
-  side : (xs ys : List Block) → ((x : Block) → Mem x xs → HasSortedCauses x) → ((x : Block) → Mem x ys → HasSortedCauses x) → (x : Block) → Mem x xs ⊎ Mem x ys → HasSortedCauses x
+  side : (xs ys : List Block) → ((x : Block) → Mem x xs → CausesRise x) → ((x : Block) → Mem x ys → CausesRise x) → (x : Block) → Mem x xs ⊎ Mem x ys → CausesRise x
   side xs ys h k x (inl m) = h x m
   side xs ys h k x (inr m) = k x m
 
@@ -235,7 +239,7 @@ module _ (all : List Block) (rise : Rising all) (mail : Lookup) (one : PlacesHav
     joined = λ k w r q r' q' h i d m. join_sorted w q q' (h d) (i d) m;
   }
 
-pub run_sorted : (p : Program) (limit c : ℕ) (mail : Lookup) → PlacesHaveOneDepth mail → (x : Block) → Mem x (run p limit c mail).blocks → HasSortedCauses x
+pub run_sorted : (p : Program) (limit c : ℕ) (mail : Lookup) → PlacesHaveOneDepth mail → (x : Block) → Mem x (run p limit c mail).blocks → CausesRise x
 run_sorted p limit c mail one =
     let all = (run p limit c mail).blocks in
     let rise = run_rising p limit c mail in
@@ -278,8 +282,8 @@ module _ (p : Program) (limit : ℕ) (all : List Message) (fixed : all ≡ sent 
       let block = one_at _ (run_rising p limit o.chare (mail_to all o.chare)) s.block t.block s.is_block there (sym s.path ∙ path ∙ t.path) in
       s.depth ∙ ap (λ x. x.depth) block ∙ sym t.depth
 
-  all_sorted : (x : Block) → Mem x (all_blocks (histories p limit all)) → HasSortedCauses x
+  all_sorted : (x : Block) → Mem x (all_blocks (histories p limit all)) → CausesRise x
   all_sorted x i = let o = of_all p limit (mail_to all) (chares p) x i in run_sorted p limit o.chare (mail_to all o.chare) (one_depth o.chare) x o.is_block
 
-pub closed_sorted : (p : Program) (limit : ℕ) (hs : List History) → Closed p limit hs → (x : Block) → Mem x (all_blocks hs) → HasSortedCauses x
-closed_sorted p limit hs h = subst (λ hs. (x : Block) → Mem x (all_blocks hs) → HasSortedCauses x) (sym h.same) (all_sorted p limit (sent hs) (ap sent h.same))
+pub closed_sorted : (p : Program) (limit : ℕ) (hs : List History) → Closed p limit hs → (x : Block) → Mem x (all_blocks hs) → CausesRise x
+closed_sorted p limit hs h = subst (λ hs. (x : Block) → Mem x (all_blocks hs) → CausesRise x) (sym h.same) (all_sorted p limit (sent hs) (ap sent h.same))

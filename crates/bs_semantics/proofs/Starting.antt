@@ -6,8 +6,11 @@ use Rattle.bs_tree.specs.declared.tree.Path.{Path}
 use Rattle.bs_log.specs.declared.history.Message.{Message}
 use Rattle.bs_log.specs.declared.history.Block.{Block}
 use Rattle.bs_log.specs.Size.{size_all}
+use Rattle.bs_log.specs.Lists.{Mem}
+use Rattle.bs_log.specs.Sound.{Once}
+use Rattle.bs_log.specs.Messages.{sent}
 use Rattle.bs_semantics.specs.Run.{run, history}
-use Rattle.bs_semantics.specs.Rounds.{Mem, Once, mail_to, sent, chares, histories, round, SameMessages, CleanAt, Closed}
+use Rattle.bs_semantics.specs.Rounds.{mail_to, chares, histories, round, SameMessages, CleanAt, Closed}
 use Rattle.bs_semantics.specs.Growth.{Subsequence}
 use Rattle.bs_semantics.specs.Orderly.{EachRestsOn}
 use Rattle.bs_semantics.specs.Serial.{Started, messages, histories_at, find, IsClean}

@@ -1,6 +1,6 @@
 -- Lists with gaps.
 use Rattle.std.proofs.Common.{◌≡◌, ◌≤◌, Bool, List, [], ◌∷◌, ◌++◌, inl, inr, refl, ap, subst, length, le_refl, arith}
-use Rattle.bs_semantics.specs.Rounds.{Mem, Apart}
+use Rattle.bs_log.specs.Lists.{Mem, Apart}
 use Rattle.bs_semantics.specs.Growth.{Subsequence, none, keep, skip}
 
 pub whole : {A : Type 0} (xs : List A) → Subsequence A xs xs

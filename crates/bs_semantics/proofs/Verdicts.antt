@@ -3,8 +3,9 @@ use Rattle.std.proofs.Common.{◌≡◌, ◌≤◌, ◌<◌, ◌⊎◌, inl, inr
 use Rattle.std.proofs.lemmas.Bool.{cases_lt}
 use Rattle.bs_tree.specs.declared.tree.Program.{Program}
 use Rattle.bs_log.specs.declared.history.Message.{Message}
-use Rattle.bs_semantics.specs.Rounds.{Once, SameMail, mail_to, mail, round, Undecided}
+use Rattle.bs_semantics.specs.Rounds.{SameMail, mail_to, mail, round, Undecided}
 use Rattle.bs_log.specs.Size.{size_all}
+use Rattle.bs_log.specs.Sound.{Once}
 use Rattle.bs_semantics.specs.Verdict.{Twice, ambiguous, Verdict, clean, twice, too_long, IsVerdict, is_too_long, is_twice, is_clean}
 use Rattle.bs_semantics.specs.Growth.{Subsequence}
 use Rattle.bs_semantics.proofs.Subsequences.{empty, not_longer, all_of}

@@ -7,8 +7,8 @@ use Rattle.bs_log.specs.declared.history.Block.{Block}
 use Rattle.bs_log.specs.declared.history.Asked.{Asked}
 use Rattle.bs_log.specs.declared.history.TrapAt.{TrapAt}
 use Rattle.bs_log.specs.declared.history.History.{History}
+use Rattle.bs_log.specs.Messages.{sends_of}
 use Rattle.bs_semantics.specs.Run.{Lookup, Run, State, Does, history}
-use Rattle.bs_semantics.specs.Rounds.{sends_of}
 
 -- the one list is the other with gaps
 pub data Subsequence (A : Type 0) : List A → List A → Type 0 where

@@ -1,9 +1,6 @@
 -- What every history is like: its lists rise by path, and each block rests on blocks before it and on messages of its
 -- mail (docs/model.md).
 use Rattle.std.specs.Prelude.{◌≡◌, ◌⊎◌, ◌≤◌, ◌<◌, ℕ, suc, true, List, [], ◌∷◌, Some, None, map, max}
-use Rattle.std.specs.Ordering.{nat_cmp, ordering_then}
-use Rattle.std.specs.Cmp.Lexicographic.{slice_cmp}
-use Rattle.std.specs.declared.cmp.Ordering.TheVariants.{Less}
 use Rattle.bs_tree.specs.declared.tree.Program.{Program}
 use Rattle.bs_tree.specs.Count.{statements_in}
 use Rattle.bs_log.specs.declared.history.Key.{Key}
@@ -14,25 +11,11 @@ use Rattle.bs_log.specs.declared.history.Asked.{Asked}
 use Rattle.bs_log.specs.declared.history.WaitAt.{WaitAt}
 use Rattle.bs_log.specs.declared.history.TrapAt.{TrapAt}
 use Rattle.bs_log.specs.declared.history.History.{History}
+use Rattle.bs_log.specs.Lists.{Mem, InOrder}
+use Rattle.bs_log.specs.Paths.{IsBelow, IsUpTo}
+use Rattle.bs_log.specs.Rising.{Rising}
 use Rattle.bs_semantics.specs.Acts.{Parcel}
 use Rattle.bs_semantics.specs.Run.{Lookup, signed, greatest}
-use Rattle.bs_semantics.specs.Rounds.{Mem}
-
--- paths are ordered as lists of numbers
-abbrev pub IsBelow : List ℕ → List ℕ → Type 0
-IsBelow a b = slice_cmp nat_cmp a b ≡ Less
-
-abbrev pub IsUpTo : List ℕ → List ℕ → Type 0
-IsUpTo a b = (a ≡ b) ⊎ IsBelow a b
-
--- each of a list stands so to all later ones
-abbrev pub InOrder : {A : Type 0} → (A → A → Type 0) → List A → Type 0
-InOrder R [] = Unit {0}
-InOrder R (x ∷ xs) = ((y : _) → Mem y xs → R x y) × InOrder R xs
-
--- the path of each block is below those of all later ones
-abbrev pub Rising : List Block → Type 0
-Rising = InOrder (λ x y. IsBelow x.path.0 y.path.0)
 
 -- the block causes are blocks that P holds of, and the depth is 1 more than the greatest of all causes
 pub record RestsOn (P : Block → Type 0) (x : Block) : Type 0 where
@@ -80,15 +63,6 @@ pub record IsNumbered (p : Program) (h : History) : Type 0 where
   pub waits : (w : WaitAt) → Mem w h.waits → IsStatement p w.stmt
   pub trap_order : InOrder (λ x y. x.stmt < y.stmt) h.traps
   pub wait_order : InOrder (λ x y. x.stmt ≤ y.stmt) h.waits
-
--- messages are ordered by (chare, path, place of the send)
-abbrev pub IsBefore : Origin → Origin → Type 0
-IsBefore a b = ordering_then (nat_cmp a.chare b.chare) (ordering_then (slice_cmp nat_cmp a.path.0 b.path.0) (nat_cmp a.index b.index)) ≡ Less
-
--- block causes rise by path, and message causes by (chare, path, place of the send)
-pub record HasSortedCauses (x : Block) : Type 0 where
-  pub after : InOrder (λ q r. IsBelow q.0 r.0) x.after
-  pub mail : InOrder IsBefore x.mail
 
 -- messages of the mail that come from one place have one depth
 abbrev pub PlacesHaveOneDepth : Lookup → Type 0

@@ -4,8 +4,7 @@ use Rattle.bs_tree.specs.declared.tree.Program.{Program}
 use Rattle.bs_log.specs.declared.history.Message.{Message}
 use Rattle.bs_log.specs.declared.history.Sent.{Sent}
 use Rattle.bs_log.specs.declared.history.Block.{Block}
-use Rattle.bs_semantics.specs.Rounds.{Mem}
-use Rattle.bs_semantics.specs.Orderly.{InOrder}
+use Rattle.bs_log.specs.Lists.{Mem, InOrder}
 
 -- a send in a block of this cost: its offset is from 1 to the cost, it has at most 2^30 bytes, and it goes to a chare
 pub record IsSend (p : Program) (cost : ℕ) (s : Sent) : Type 0 where

@@ -4,8 +4,9 @@ use Rattle.bs_tree.specs.declared.tree.Program.{Program}
 use Rattle.bs_log.specs.declared.history.Block.{Block}
 use Rattle.bs_log.specs.declared.history.History.{History}
 use Rattle.bs_log.specs.declared.outcome.Outcome.{Outcome}
+use Rattle.bs_log.specs.Collected.{traps_from, waits_from}
 use Rattle.bs_semantics.specs.Rounds.{round}
-use Rattle.bs_semantics.specs.Serial.{Machine, Started, IsClean, IsNext, row_of, traps_from, waits_from}
+use Rattle.bs_semantics.specs.Serial.{Machine, Started, IsClean, IsNext, row_of}
 
 -- the model begins with nothing started, and in a clean state it starts the next block
 pub data IsReached (p : Program) (limit : ℕ) (m : Machine) : List Started → Type 0 where
@@ -32,5 +33,5 @@ pub record Shows (p : Program) (limit : ℕ) (m : Machine) (n : ℕ) (o : Outcom
   pub started : List Started
   pub blocks : map placed started ≡ blocks_from 0 (round p limit n)
   pub rows : o.rows ≡ map (row_of m) started
-  pub traps : o.traps ≡ traps_from m 0 (round p limit n)
-  pub waits : o.waits ≡ waits_from m 0 (round p limit n)
+  pub traps : o.traps ≡ traps_from 0 (round p limit n)
+  pub waits : o.waits ≡ waits_from 0 (round p limit n)

@@ -1,31 +1,14 @@
--- What histories send, the rounds of a program, and closed sets of histories (docs/model.md).
-use Rattle.std.specs.Prelude.{◌≡◌, ◌⊎◌, ◌≤◌, ◌<◌, ℕ, zero, suc, ◌+◌, ◌==◌, Bool, false, ◌&&◌, if◌then◌else◌, List, [], ◌∷◌, ◌++◌, Some, None, map}
-use Rattle.std.specs.Ordering.{int_eq}
+-- The rounds of a program, and closed sets of histories (docs/model.md).
+use Rattle.std.specs.Prelude.{◌≡◌, ◌≤◌, ◌<◌, ℕ, zero, suc, ◌+◌, if◌then◌else◌, List, [], ◌∷◌, Some, None, map}
 use Rattle.bs_tree.specs.declared.tree.Program.{Program}
 use Rattle.bs_log.specs.declared.history.Key.{Key}
 use Rattle.bs_log.specs.declared.history.Message.{Message}
-use Rattle.bs_log.specs.declared.history.Block.{Block}
-use Rattle.bs_log.specs.declared.history.Asked.{Asked}
 use Rattle.bs_log.specs.declared.history.History.{History}
+use Rattle.bs_log.specs.Lists.{Mem}
+use Rattle.bs_log.specs.Messages.{sent, is_for}
+use Rattle.bs_log.specs.Sound.{Once}
 use Rattle.bs_log.specs.Size.{size_all}
 use Rattle.bs_semantics.specs.Run.{Lookup, history}
-
--- what blocks send, in their order
-abbrev pub sends_of : List Block → List Message
-sends_of [] = []
-sends_of (b ∷ bs) = b.sends ++ sends_of bs
-
--- all that histories send, in the order of (chare, path, place)
-abbrev pub sent : List History → List Message
-sent [] = []
-sent (h ∷ hs) = sends_of h.blocks ++ sent hs
-
-abbrev pub same_key : Key → Key → Bool
-same_key a b = (a.entry == b.entry) && int_eq a.reference b.reference
-
--- a message of this key to this chare
-abbrev pub is_for : ℕ → Key → Message → Bool
-is_for c k m = (m.sent.to == c) && same_key m.sent.key k
 
 -- the mail of a chare as a look-up
 abbrev pub mail_to : List Message → ℕ → Lookup
@@ -53,30 +36,6 @@ mail p limit (suc n) = sent (histories p limit (mail p limit n))
 -- round n: the histories of all chares under its mail
 abbrev pub round : Program → ℕ → ℕ → List History
 round p limit n = histories p limit (mail p limit n)
-
-abbrev pub Mem : {A : Type 0} → A → List A → Type 0
-Mem x [] = ⊥
-Mem x (y ∷ ys) = (x ≡ y) ⊎ Mem x ys
-
--- no two of a list are alike
-abbrev pub Apart : {A : Type 0} → (A → A → Bool) → List A → Type 0
-Apart same [] = Unit {0}
-Apart same (x ∷ xs) = ((y : _) → Mem y xs → same x y ≡ false) × Apart same xs
-
-abbrev pub Each : {A : Type 0} → (A → Type 0) → List A → Type 0
-Each P [] = Unit {0}
-Each P (x ∷ xs) = P x × Each P xs
-
-abbrev pub one_key : Message → Message → Bool
-one_key a b = is_for b.sent.to b.sent.key a
-
-abbrev pub one_asked : Asked → Asked → Bool
-one_asked a b = same_key a.key b.key
-
--- no chare is sent one key twice, or asks one key twice
-pub record Once (hs : List History) : Type 0 where
-  pub sent : Apart one_key (sent hs)
-  pub asked : Each (λ h. Apart one_asked h.asked) hs
 
 -- the same mail for each chare
 abbrev pub SameMail : List Message → List Message → Type 0

@@ -1,8 +1,9 @@
 -- The serial machine model: blocks are started one at a time, the least start first, and all histories are taken anew
 -- at each step (docs/model.md).
-use Rattle.std.specs.Prelude.{◌≡◌, ◌≤◌, ◌<◌, ◌⊎◌, ℕ, ◌+◌, ◌-◌, ◌==◌, max, Bool, ◌&&◌, if◌then◌else◌, List, [], ◌∷◌, ◌++◌, map, Option, Some, None, slice_get}
-use Rattle.std.specs.Ordering.{nat_cmp, ordering_then, eq_by_cmp}
+use Rattle.std.specs.Prelude.{◌≡◌, ◌≤◌, ◌<◌, ◌⊎◌, ℕ, ◌+◌, ◌-◌, ◌==◌, max, ◌&&◌, if◌then◌else◌, List, [], ◌∷◌, ◌++◌, map, Option, Some, None, slice_get}
+use Rattle.std.specs.Ordering.{nat_cmp, ordering_then}
 use Rattle.std.specs.Cmp.Lexicographic.{slice_cmp}
+use Rattle.std.specs.Str.{bytes_eq}
 use Rattle.std.specs.declared.cmp.Ordering.{Ordering}
 use Rattle.std.specs.declared.cmp.Ordering.TheVariants.{Less}
 use Rattle.bs_tree.specs.declared.tree.Program.{Program}
@@ -10,16 +11,15 @@ use Rattle.bs_tree.specs.declared.tree.Path.{Path}
 use Rattle.bs_log.specs.declared.history.Origin.{Origin}
 use Rattle.bs_log.specs.declared.history.Message.{Message}
 use Rattle.bs_log.specs.declared.history.Block.{Block}
-use Rattle.bs_log.specs.declared.history.WaitAt.{WaitAt}
-use Rattle.bs_log.specs.declared.history.TrapAt.{TrapAt}
 use Rattle.bs_log.specs.declared.history.History.{History}
-use Rattle.bs_log.specs.declared.log.TrapRow.{TrapRow}
-use Rattle.bs_log.specs.declared.log.WaitRow.{WaitRow}
 use Rattle.bs_log.specs.declared.outcome.OutRow.{OutRow}
 use Rattle.bs_log.specs.declared.outcome.Outcome.{Outcome}
 use Rattle.bs_log.specs.Size.{size_all}
+use Rattle.bs_log.specs.Collected.{traps_from, waits_from}
+use Rattle.bs_log.specs.Lists.{Mem}
+use Rattle.bs_log.specs.Sound.{Once}
 use Rattle.bs_semantics.specs.Run.{greatest, put_all, history}
-use Rattle.bs_semantics.specs.Rounds.{Mem, Once, chares, histories, mail_to}
+use Rattle.bs_semantics.specs.Rounds.{chares, histories, mail_to}
 
 -- the processor of a chare, the latency from one processor to another for a number of bytes, and the duration of a cost
 pub record Machine : Type 0 where
@@ -46,13 +46,10 @@ pub record IsClean (p : Program) (limit : ℕ) (bs : List Started) : Type 0 wher
   pub size : size_all (histories_at p limit bs) ≤ limit
   pub once : Once (histories_at p limit bs)
 
-abbrev pub same_path : List ℕ → List ℕ → Bool
-same_path a b = eq_by_cmp (slice_cmp nat_cmp) a b
-
 -- the started block of a chare at a path
 abbrev pub find : List Started → ℕ → List ℕ → Option Started
 find [] c path = None
-find (b ∷ bs) c path = if (b.chare == c) && same_path b.block.path.0 path then Some b else find bs c path
+find (b ∷ bs) c path = if (b.chare == c) && bytes_eq b.block.path.0 path then Some b else find bs c path
 
 -- a block of a chare that wasn't started, and whose block causes were
 pub record IsEnabled (p : Program) (limit : ℕ) (bs : List Started) (c : ℕ) (x : Block) : Type 0 where
@@ -117,14 +114,6 @@ module _ (m : Machine) where
   -- the started blocks in the order of (chare, path)
   abbrev pub rows_of : List Started → List OutRow
   rows_of bs = map row_of (put_all started_cmp bs [])
-
-  abbrev pub traps_from : ℕ → List History → List TrapRow
-  traps_from c [] = []
-  traps_from c (h ∷ hs) = map (λ (t : TrapAt). record { chare = c; stmt = t.stmt; kind = t.kind }) h.traps ++ traps_from (c + 1) hs
-
-  abbrev pub waits_from : ℕ → List History → List WaitRow
-  waits_from c [] = []
-  waits_from c (h ∷ hs) = map (λ (w : WaitAt). record { chare = c; stmt = w.stmt; key = w.key }) h.waits ++ waits_from (c + 1) hs
 
   abbrev pub outcome : Program → ℕ → List Started → Outcome
   outcome p limit bs = record { rows = rows_of bs; traps = traps_from 0 (histories_at p limit bs); waits = waits_from 0 (histories_at p limit bs) }

@@ -4,8 +4,11 @@ use Rattle.bs_tree.specs.declared.tree.Program.{Program}
 use Rattle.bs_log.specs.declared.history.Message.{Message}
 use Rattle.bs_log.specs.declared.history.Block.{Block}
 use Rattle.bs_log.specs.Size.{size_all}
+use Rattle.bs_log.specs.Lists.{Mem}
+use Rattle.bs_log.specs.Sound.{Once}
+use Rattle.bs_log.specs.Messages.{sent}
 use Rattle.bs_semantics.specs.Run.{history}
-use Rattle.bs_semantics.specs.Rounds.{Mem, Once, mail_to, sent, chares, histories, round}
+use Rattle.bs_semantics.specs.Rounds.{mail_to, chares, histories, round}
 use Rattle.bs_semantics.specs.Growth.{Subsequence, HistoryWithin}
 use Rattle.bs_semantics.specs.Serial.{Started, messages, IsEnabled}
 

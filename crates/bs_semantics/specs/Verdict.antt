@@ -10,7 +10,8 @@ use Rattle.bs_log.specs.declared.history.Block.{Block}
 use Rattle.bs_log.specs.declared.history.Asked.{Asked}
 use Rattle.bs_log.specs.declared.history.History.{History}
 use Rattle.bs_log.specs.Size.{size_all}
-use Rattle.bs_semantics.specs.Rounds.{same_key, round, Undecided, CleanAt}
+use Rattle.bs_log.specs.Messages.{same_key}
+use Rattle.bs_semantics.specs.Rounds.{round, Undecided, CleanAt}
 
 -- a statement of a chare
 pub record At : Type 0 where

@@ -6,16 +6,16 @@ ghost use Rattle.bs_log.specs.declared.history.Message.{Message};
 ghost use Rattle.bs_log.specs.declared.history.Block.{Block};
 ghost use Rattle.bs_log.specs.declared.history.History.{History};
 ghost use Rattle.bs_log.specs.Size.{size_all};
+ghost use Rattle.bs_log.specs.Lists.{Mem};
+ghost use Rattle.bs_log.specs.Sound.{Once};
+ghost use Rattle.bs_log.specs.Messages.{sent};
 ghost use Rattle.bs_semantics.specs.Run.{Lookup, meant, history};
 ghost use Rattle.bs_semantics.specs.Rounds.{
-  Mem,
-  Once,
   Undecided,
   CleanAt,
   Closed,
   SameMessages,
   mail_to,
-  sent,
   histories,
   round,
 };
@@ -91,7 +91,8 @@ pub fn cut()
     ensures { (p : Program) → HasNoIdleLoop p → IsUncut p }
 {}
 
-ghost use Rattle.bs_semantics.specs.Orderly.{IsOrderly, IsNumbered, PlacesHaveOneDepth, HasSortedCauses, Rising};
+ghost use Rattle.bs_log.specs.Rising.{CausesRise, Rising};
+ghost use Rattle.bs_semantics.specs.Orderly.{IsOrderly, IsNumbered, PlacesHaveOneDepth};
 
 /// Every history is in order: its blocks and traps rise by path, and so do the keys asked and the
 /// waits, of which one `when` gives several at one path; each block rests on blocks before it and on
@@ -105,7 +106,7 @@ ghost use Rattle.bs_semantics.specs.Orderly.{IsOrderly, IsNumbered, PlacesHaveOn
 pub fn orderly()
     ensures histories { (p : Program) (limit c : ℕ) (mail : Lookup) → IsOrderly c mail (history p limit c mail) }
     ensures numbers { (p : Program) (limit c : ℕ) (mail : Lookup) → IsNumbered p (history p limit c mail) }
-    ensures causes { (p : Program) (limit c : ℕ) (mail : Lookup) → PlacesHaveOneDepth mail → (x : Block) → Mem x (history p limit c mail).blocks → HasSortedCauses x }
+    ensures causes { (p : Program) (limit c : ℕ) (mail : Lookup) → PlacesHaveOneDepth mail → (x : Block) → Mem x (history p limit c mail).blocks → CausesRise x }
     ensures one { (xs ys : List Block) → Rising xs → Rising ys → ((x : Block) → Mem x xs → Mem x ys) → ((x : Block) → Mem x ys → Mem x xs) → xs ≡ ys }
 {}
 
@@ -128,7 +129,7 @@ ghost use Rattle.bs_semantics.specs.ClosedTest.{Passes};
 pub fn closed_sets()
     ensures passes { (p : Program) (limit : ℕ) (hs : List History) → Closed p limit hs → Passes p limit hs }
     ensures order { (p : Program) (limit : ℕ) (ms : List Message) (hs : List History) → hs ≡ histories p limit ms → Once hs → size_all hs ≤ limit → SameMessages ms (sent hs) → Closed p limit hs }
-    ensures causes { (p : Program) (limit : ℕ) (hs : List History) → Closed p limit hs → (x : Block) → Mem x (all_blocks hs) → HasSortedCauses x }
+    ensures causes { (p : Program) (limit : ℕ) (hs : List History) → Closed p limit hs → (x : Block) → Mem x (all_blocks hs) → CausesRise x }
 {}
 
 ghost use Rattle.bs_log.specs.ClosedTest.{LooksClosed};

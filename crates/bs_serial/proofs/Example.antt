@@ -1,8 +1,8 @@
 -- The times of the program `exchange`, evaluated.
 use Rattle.std.proofs.Common.{◌≡◌, ◌<◌, ◌≤◌, ℕ, zero, suc, List, [], ◌∷◌, inl, inr, refl, sym, ap, subst, ◌∙◌, arith}
 use Rattle.bs_log.specs.declared.history.History.{History}
-use Rattle.bs_log.specs.ClosedTest.{Mem}
 use Rattle.bs_log.specs.Collected.{number_of, row_of, log_of}
+use Rattle.bs_log.specs.Lists.{Mem}
 use Rattle.bs_semantics.specs.Rounds.{round}
 use Rattle.bs_semantics.specs.Verdict.{clean}
 use Rattle.bs_semantics.specs.Serial.{timed, IsSerial}

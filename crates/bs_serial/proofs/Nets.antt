@@ -12,12 +12,12 @@ use Rattle.bs_log.specs.declared.history.Block.{Block}
 use Rattle.bs_log.specs.declared.log.MailRef.{MailRef}
 use Rattle.bs_log.specs.declared.log.Row.{Row}
 use Rattle.bs_log.specs.declared.log.Log.{Log}
-use Rattle.bs_log.specs.ClosedTest as log_test
 use Rattle.bs_log.specs.Valid.{numbered}
 use Rattle.bs_log.specs.Collected.{number_of, mail_ref, log_of}
 use Rattle.bs_log.specs.Collected as log
+use Rattle.bs_log.specs.Lists.{Mem}
 use Rattle.bs_semantics.specs.Run.{greatest}
-use Rattle.bs_semantics.specs.Rounds.{Mem, mail_to, round, CleanAt}
+use Rattle.bs_semantics.specs.Rounds.{mail_to, round, CleanAt}
 use Rattle.bs_semantics.specs.Orderly.{RestsOn, EachRestsOn}
 use Rattle.bs_semantics.specs.Serial.{Machine}
 use Rattle.bs_semantics.specs.Reached.{Placed}
@@ -29,18 +29,6 @@ use Rattle.bs_times.specs.Machine.{IsTimely}
 use Rattle.bs_times.specs.Net.{Net, HasRow, Causal, no_row, no_send, row_of, sent_of, net_of}
 use Rattle.bs_serial.proofs.States.{all_sent, blocks_at, Comes, comes}
 use Rattle.bs_serial.proofs.Rows.{row_at, all_blocks, number, into_blocks, is_block, has_number, BlockOf, block_of}
-
--- ---- members, in the words of both libraries
-
-pub to_mem : {A : Type 0} (x : A) (xs : List A) → Mem x xs → log_test.Mem x xs
-to_mem x [] m = absurd m
-to_mem x (y ∷ xs) (inl e) = inl e
-to_mem x (y ∷ xs) (inr m) = inr (to_mem x xs m)
-
-pub of_mem : {A : Type 0} (x : A) (xs : List A) → log_test.Mem x xs → Mem x xs
-of_mem x [] m = absurd m
-of_mem x (y ∷ xs) (inl e) = inl e
-of_mem x (y ∷ xs) (inr m) = inr (of_mem x xs m)
 
 -- ---- an item that has a number
 
@@ -193,10 +181,10 @@ module _ (p : Program) (limit n : ℕ) (m : Machine) (clean : CleanAt p limit n)
 
     module _ (timely : IsTimely m) where
       abbrev AfterFine : ℕ → Type 0
-      AfterFine i = (x : ℕ) → log_test.Mem x (net.after i) → HasRow net x × (net.home x ≡ net.home i) × (net.depth x < net.depth i)
+      AfterFine i = (x : ℕ) → Mem x (net.after i) → HasRow net x × (net.home x ≡ net.home i) × (net.depth x < net.depth i)
 
       abbrev MailFine : ℕ → Type 0
-      MailFine i = (r : MailRef) → log_test.Mem r (net.mail i) → HasRow net r.row × (net.depth r.row < net.depth i) × (net.goes_to r ≡ net.home i)
+      MailFine i = (r : MailRef) → Mem r (net.mail i) → HasRow net r.row × (net.depth r.row < net.depth i) × (net.goes_to r ≡ net.home i)
 
       duration_fine : (a : Placed) → Mem a (all_blocks p limit n m clean) → 1 ≤ net.duration (number p limit n m clean a)
       duration_fine a i =
@@ -207,7 +195,7 @@ module _ (p : Program) (limit n : ℕ) (m : Machine) (clean : CleanAt p limit n)
           omega (arith, long, d)
 
       after_fine : (a : Placed) → Mem a (all_blocks p limit n m clean) → AfterFine (number p limit n m clean a)
-      after_fine a i x j = by_path (map_of (number_of (round p limit n) a.chare) a.block.after x (of_mem x _ (subst (log_test.Mem x) (row_says a i).after j)))
+      after_fine a i x j = by_path (map_of (number_of (round p limit n) a.chare) a.block.after x (subst (Mem x) (row_says a i).after j))
         where
           by_path : (k : MapOf (number_of (round p limit n) a.chare) a.block.after x) → HasRow net x × (net.home x ≡ net.home (number p limit n m clean a)) × (net.depth x < net.depth (number p limit n m clean a))
           by_path k =
@@ -225,7 +213,7 @@ module _ (p : Program) (limit n : ℕ) (m : Machine) (clean : CleanAt p limit n)
               (has_row d d_in, says.home ∙ sym own.home, omega (arith, one, two, far))
 
       mail_fine : (a : Placed) → Mem a (all_blocks p limit n m clean) → MailFine (number p limit n m clean a)
-      mail_fine a i r j = by_origin (map_of (mail_ref (round p limit n)) a.block.mail r (of_mem r _ (subst (log_test.Mem r) (row_says a i).mail j)))
+      mail_fine a i r j = by_origin (map_of (mail_ref (round p limit n)) a.block.mail r (subst (Mem r) (row_says a i).mail j))
         where
           by_origin : (k : MapOf (mail_ref (round p limit n)) a.block.mail r) → HasRow net r.row × (net.depth r.row < net.depth (number p limit n m clean a)) × (net.goes_to r ≡ net.home (number p limit n m clean a))
           by_origin k =
@@ -245,8 +233,8 @@ module _ (p : Program) (limit n : ℕ) (m : Machine) (clean : CleanAt p limit n)
               let goes : net.goes_to r ≡ m.home a.chare = ap (λ r. m.home (sent_of the_log r).to) k.is ∙ ap (λ (s : Sent). m.home s.to) (sent_is a.chare o come) ∙ ap m.home come.to in
               (subst (HasRow net) (sym row) (has_row d d_in), omega (arith, one, two, far, deep, block), goes ∙ sym own.home)
 
-      travel_fine : (a : Placed) → Mem a (all_blocks p limit n m clean) → (r : MailRef) → log_test.Mem r (net.mail (number p limit n m clean a)) → 1 ≤ net.travel r
-      travel_fine a i r j = by_origin (map_of (mail_ref (round p limit n)) a.block.mail r (of_mem r _ (subst (log_test.Mem r) (row_says a i).mail j)))
+      travel_fine : (a : Placed) → Mem a (all_blocks p limit n m clean) → (r : MailRef) → Mem r (net.mail (number p limit n m clean a)) → 1 ≤ net.travel r
+      travel_fine a i r j = by_origin (map_of (mail_ref (round p limit n)) a.block.mail r (subst (Mem r) (row_says a i).mail j))
         where
           by_origin : (k : MapOf (mail_ref (round p limit n)) a.block.mail r) → 1 ≤ net.travel r
           by_origin k =
@@ -267,7 +255,7 @@ module _ (p : Program) (limit n : ℕ) (m : Machine) (clean : CleanAt p limit n)
       pub causal : Causal net
       causal = record {
         duration = each_row (λ i. 1 ≤ net.duration i) duration_fine;
-        travel = λ i r h. each_row (λ i. (r : MailRef) → log_test.Mem r (net.mail i) → 1 ≤ net.travel r) travel_fine i h r;
+        travel = λ i r h. each_row (λ i. (r : MailRef) → Mem r (net.mail i) → 1 ≤ net.travel r) travel_fine i h r;
         after = λ i x h. each_row AfterFine after_fine i h x;
         mail = λ i r h. each_row MailFine mail_fine i h r;
       }

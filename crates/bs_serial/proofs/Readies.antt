@@ -7,10 +7,10 @@ use Rattle.bs_log.specs.declared.history.Origin.{Origin}
 use Rattle.bs_log.specs.declared.history.Sent.{Sent}
 use Rattle.bs_log.specs.declared.history.Block.{Block}
 use Rattle.bs_log.specs.declared.log.MailRef.{MailRef}
-use Rattle.bs_log.specs.ClosedTest as log_test
 use Rattle.bs_log.specs.Collected.{number_of, mail_ref}
+use Rattle.bs_log.specs.Lists.{Mem}
 use Rattle.bs_semantics.specs.Run.{greatest}
-use Rattle.bs_semantics.specs.Rounds.{Mem, round, CleanAt}
+use Rattle.bs_semantics.specs.Rounds.{round, CleanAt}
 use Rattle.bs_semantics.specs.Serial.{Machine, Started, find, end_found, arrival_of, arrival_found}
 use Rattle.bs_semantics.specs.Serial as model
 use Rattle.bs_semantics.specs.Reached.{IsReached, Placed, placed}
@@ -24,7 +24,7 @@ use Rattle.bs_times.specs.Serial.{free, due, IsEnabled}
 use Rattle.bs_serial.specs.Times.{IsBegun}
 use Rattle.bs_serial.proofs.States.{blocks_at, known, AreBegun, comes, in_round, enabled_in_round, enabled_known, found_block, enabled_there}
 use Rattle.bs_serial.proofs.Rows.{all_blocks, number, into_blocks, is_block, one_number}
-use Rattle.bs_serial.proofs.Nets.{to_mem, of_mem, before, path_number, the_log, net, has_row, row_says, sender_of, sender_in, sender_number, sent_is, some_block}
+use Rattle.bs_serial.proofs.Nets.{before, path_number, the_log, net, has_row, row_says, sender_of, sender_in, sender_number, sent_is, some_block}
 
 -- two greatest, with the same numbers
 same_greatest : {A B : Type 0} (f : B → ℕ) (g : A → B) (h : A → ℕ) (xs : List A) → ((x : A) → Mem x xs → f (g x) ≡ h x) → times.greatest (map f (map g xs)) ≡ greatest h xs
@@ -94,14 +94,14 @@ module _ (p : Program) (limit n : ℕ) (m : Machine) (clean : CleanAt p limit n)
     -- ---- what can be started
 
     -- a block whose number is among those of the started ones was started
-    known_of : (a : Placed) → Mem a (all_blocks p limit n m clean) → log_test.Mem (number p limit n m clean a) (map row bs) → IsBegun bs a.chare a.block.path.0
+    known_of : (a : Placed) → Mem a (all_blocks p limit n m clean) → Mem (number p limit n m clean a) (map row bs) → IsBegun bs a.chare a.block.path.0
     known_of a i j =
-        let o = map_of row bs (number p limit n m clean a) (of_mem _ _ j) in
+        let o = map_of row bs (number p limit n m clean a) j in
         let one : placed o.from ≡ a = sym (one_number p limit n m clean a (placed o.from) i (started_in o.from o.is_in) o.is) in
         known bs o.from a.chare a.block.path.0 o.is_in (ap (λ (a : Placed). a.chare) one) (ap (λ (a : Placed). a.block.path.0) one)
 
-    known_row : (c : ℕ) (q : Path) → IsBegun bs c q.0 → log_test.Mem (number_of (round p limit n) c q) (map row bs)
-    known_row c q k = to_mem _ _ (subst (λ i. Mem i (map row bs)) (sym (known_number c q k.0 k.1)) (mem_map row k.0 bs (found_at bs c q.0 k.0 k.1).is_in))
+    known_row : (c : ℕ) (q : Path) → IsBegun bs c q.0 → Mem (number_of (round p limit n) c q) (map row bs)
+    known_row c q k = subst (λ i. Mem i (map row bs)) (sym (known_number c q k.0 k.1)) (mem_map row k.0 bs (found_at bs c q.0 k.0 k.1).is_in)
 
     -- a block that the model can start is an enabled row
     pub to_row : (a : Placed) → model.IsEnabled p limit bs a.chare a.block → IsEnabled (net p limit n m clean entries) (map row bs) (number p limit n m clean a)
@@ -114,11 +114,11 @@ module _ (p : Program) (limit n : ℕ) (m : Machine) (clean : CleanAt p limit n)
           fresh = λ j. none_some (sym e.fresh ∙ (known_of a i j).1);
           causes = record {
             after = λ x j.
-                let o = map_of (number_of (round p limit n) a.chare) a.block.after x (of_mem _ _ (subst (log_test.Mem x) says.after j)) in
-                subst (λ x. log_test.Mem x (map row bs)) (sym o.is) (known_row a.chare o.from (k.after o.from o.is_in));
+                let o = map_of (number_of (round p limit n) a.chare) a.block.after x (subst (Mem x) says.after j) in
+                subst (λ x. Mem x (map row bs)) (sym o.is) (known_row a.chare o.from (k.after o.from o.is_in));
             mail = λ x j.
-                let o = map_of (mail_ref (round p limit n)) a.block.mail x (of_mem _ _ (subst (log_test.Mem x) says.mail j)) in
-                subst (λ (x : MailRef). log_test.Mem x.row (map row bs)) (sym o.is) (known_row o.from.chare o.from.path (k.mail o.from o.is_in));
+                let o = map_of (mail_ref (round p limit n)) a.block.mail x (subst (Mem x) says.mail j) in
+                subst (λ (x : MailRef). Mem x.row (map row bs)) (sym o.is) (known_row o.from.chare o.from.path (k.mail o.from o.is_in));
           };
         }
 
@@ -128,7 +128,7 @@ module _ (p : Program) (limit n : ℕ) (m : Machine) (clean : CleanAt p limit n)
       pub is : number p limit n m clean block ≡ k
       pub enabled : model.IsEnabled p limit bs block.chare block.block
 
-    fresh_of : (a : Placed) → Mem a (all_blocks p limit n m clean) → (log_test.Mem (number p limit n m clean a) (map row bs) → ⊥) → find bs a.chare a.block.path.0 ≡ None
+    fresh_of : (a : Placed) → Mem a (all_blocks p limit n m clean) → (Mem (number p limit n m clean a) (map row bs) → ⊥) → find bs a.chare a.block.path.0 ≡ None
     fresh_of a i f = by_find (find bs a.chare a.block.path.0) refl
       where
         by_find : (o : Option Started) → find bs a.chare a.block.path.0 ≡ o → o ≡ None
@@ -143,15 +143,15 @@ module _ (p : Program) (limit n : ℕ) (m : Machine) (clean : CleanAt p limit n)
           after = λ q j.
               let b = before p limit n m clean a.chare a.block is.block q j in
               let d : Placed = record { chare = a.chare; block = b.block } in
-              let there = (e.causes).after (number_of (round p limit n) a.chare q) (subst (log_test.Mem (number_of (round p limit n) a.chare q)) (sym says.after) (to_mem _ _ (mem_map (number_of (round p limit n) a.chare) q a.block.after j))) in
+              let there = (e.causes).after (number_of (round p limit n) a.chare q) (subst (Mem (number_of (round p limit n) a.chare q)) (sym says.after) (mem_map (number_of (round p limit n) a.chare) q a.block.after j)) in
               let num = path_number p limit n m clean a.chare q d refl (sym (ap (λ (q : Path). q.0) b.is)) in
-              subst (IsBegun bs a.chare) (sym (ap (λ (q : Path). q.0) b.is)) (known_of d (into_blocks p limit n m clean d is.chare b.is_in) (subst (λ i. log_test.Mem i (map row bs)) num there));
+              subst (IsBegun bs a.chare) (sym (ap (λ (q : Path). q.0) b.is)) (known_of d (into_blocks p limit n m clean d is.chare b.is_in) (subst (λ i. Mem i (map row bs)) num there));
           mail = λ o j.
               let come = comes p limit n m clean a.chare a.block is.block o j in
-              let there = (e.causes).mail (mail_ref (round p limit n) o) (subst (log_test.Mem (mail_ref (round p limit n) o)) (sym says.mail) (to_mem _ _ (mem_map (mail_ref (round p limit n)) o a.block.mail j))) in
+              let there = (e.causes).mail (mail_ref (round p limit n) o) (subst (Mem (mail_ref (round p limit n) o)) (sym says.mail) (mem_map (mail_ref (round p limit n)) o a.block.mail j)) in
               let num = sender_number p limit n m clean entries a.chare o come in
               let path : (come.block).path.0 ≡ o.path.0 = sym ((come.of_block).path) ∙ ap (λ (o : Origin). o.path.0) come.origin in
-              subst (IsBegun bs o.chare) path (known_of (sender_of p limit n m clean entries a.chare o come) (sender_in p limit n m clean entries a.chare o come) (subst (λ i. log_test.Mem i (map row bs)) num there));
+              subst (IsBegun bs o.chare) path (known_of (sender_of p limit n m clean entries a.chare o come) (sender_in p limit n m clean entries a.chare o come) (subst (λ i. Mem i (map row bs)) num there));
         })
 
     -- an enabled row is that of a block that the model can start

@@ -13,10 +13,10 @@ use Rattle.bs_log.specs.declared.log.Row.{Row}
 use Rattle.bs_log.specs.Messages.{same_path}
 use Rattle.bs_log.specs.Collected.{Site, site, sites_from, is_site, place, number_of, rows_from, log_of}
 use Rattle.bs_log.specs.Collected as log
+use Rattle.bs_log.specs.Lists.{Mem, InOrder}
 use Rattle.bs_log.proofs.ClosedTests.{same_path_is}
 use Rattle.bs_semantics.specs.Run.{Lookup, history}
-use Rattle.bs_semantics.specs.Rounds.{Mem, mail_to, chares, from_to, round, CleanAt}
-use Rattle.bs_semantics.specs.Orderly.{InOrder}
+use Rattle.bs_semantics.specs.Rounds.{mail_to, chares, from_to, round, CleanAt}
 use Rattle.bs_semantics.specs.Serial.{Machine}
 use Rattle.bs_semantics.specs.Reached.{Placed, blocks_from}
 use Rattle.bs_semantics.proofs.Members.{map_of, in_order_both, in_order_map}

@@ -6,7 +6,8 @@ use Rattle.std.proofs.lemmas.Bool.{cases_lt, eq-eqb, ne_eqb}
 use Rattle.std.proofs.lemmas.Cmp.{nat_cmp_total, nat_list_cmp_total, tied_itself}
 use Rattle.std.proofs.lemmas.Map.Lookups.{exact_bytes}
 use Rattle.bs_tree.specs.declared.tree.Program.{Program}
-use Rattle.bs_semantics.specs.Rounds.{Mem, CleanAt}
+use Rattle.bs_log.specs.Lists.{Mem}
+use Rattle.bs_semantics.specs.Rounds.{CleanAt}
 use Rattle.bs_semantics.specs.Serial.{Machine, Started, IsCandidate, IsNext, Earlier, find}
 use Rattle.bs_semantics.specs.Serial as model
 use Rattle.bs_semantics.specs.Starting.{NoneEnabled}

@@ -5,9 +5,11 @@ use Rattle.bs_log.specs.declared.history.Origin.{Origin}
 use Rattle.bs_log.specs.declared.history.Key.{Key}
 use Rattle.bs_log.specs.declared.history.Message.{Message}
 use Rattle.bs_log.specs.declared.history.Block.{Block}
+use Rattle.bs_log.specs.Lists.{Mem}
+use Rattle.bs_log.specs.Messages.{is_for, sent}
 use Rattle.bs_semantics.specs.Acts.{Parcel}
 use Rattle.bs_semantics.specs.Run.{Lookup, signed, history}
-use Rattle.bs_semantics.specs.Rounds.{Mem, is_for, mail_to, sent, chares, histories, round, CleanAt}
+use Rattle.bs_semantics.specs.Rounds.{mail_to, chares, histories, round, CleanAt}
 use Rattle.bs_semantics.specs.Serial.{Machine, Started, messages, find, IsEnabled}
 use Rattle.bs_semantics.specs.Reached.{IsReached, begins, goes_on}
 use Rattle.bs_semantics.proofs.Subsequences.{member}

@@ -5,11 +5,11 @@ use Rattle.bs_tree.specs.declared.tree.Program.{Program}
 use Rattle.bs_log.specs.declared.history.Block.{Block}
 use Rattle.bs_log.specs.declared.history.History.{History}
 use Rattle.bs_log.specs.declared.outcome.Outcome.{Outcome}
-use Rattle.bs_log.specs.Collected.{log_of}
+use Rattle.bs_log.specs.Collected.{log_of, traps_from, waits_from}
 use Rattle.bs_log.specs.Collected as log
+use Rattle.bs_log.specs.Lists.{Mem, InOrder}
 use Rattle.bs_semantics.specs.Run.{put_all}
-use Rattle.bs_semantics.specs.Rounds.{Mem, mail_to, round, CleanAt}
-use Rattle.bs_semantics.specs.Orderly.{InOrder}
+use Rattle.bs_semantics.specs.Rounds.{mail_to, round, CleanAt}
 use Rattle.bs_semantics.specs.Serial.{Machine, Started, Simulated, timed, unclean, Gives, IsSerial, IsClean, IsEnabled, messages, histories_at, started_cmp, outcome}
 use Rattle.bs_semantics.specs.Serial as model
 use Rattle.bs_semantics.specs.Starting.{NoneEnabled}
@@ -32,16 +32,6 @@ use Rattle.bs_serial.proofs.Rows.{Item, place_cmp, place_total, row_at, all_bloc
 use Rattle.bs_serial.proofs.Nets.{net, has_row, causal}
 use Rattle.bs_serial.proofs.Readies.{row, Tells, started_in}
 use Rattle.bs_serial.proofs.Runs.{run_of, none_left, starts_of, tells_of}
-
--- ---- traps and waits
-
-traps_are : (m : Machine) (c : ℕ) (hs : List History) → model.traps_from m c hs ≡ log.traps_from c hs
-traps_are m c [] = refl
-traps_are m c (h ∷ hs) = ap (λ xs. map (log.trap_row c) h.traps ++ xs) (traps_are m (c + 1) hs)
-
-waits_are : (m : Machine) (c : ℕ) (hs : List History) → model.waits_from m c hs ≡ log.waits_from c hs
-waits_are m c [] = refl
-waits_are m c (h ∷ hs) = ap (λ xs. map (log.wait_row c) h.waits ++ xs) (waits_are m (c + 1) hs)
 
 -- ---- rows
 
@@ -109,11 +99,11 @@ module _ (p : Program) (limit n : ℕ) (m : Machine) (clean : CleanAt p limit n)
           ∙ ap (λ xs. out_rows m s 1 (map (row_at (round p limit n)) xs)) all_begun
           ∙ ap (out_rows m s 1) (sym (log_rows p limit n m clean entries))
 
-      traps : model.traps_from m 0 (histories_at p limit bs) ≡ (log_of (round p limit n) entries).traps
-      traps = traps_are m 0 (histories_at p limit bs) ∙ ap (log.traps_from 0) is
+      traps : traps_from 0 (histories_at p limit bs) ≡ (log_of (round p limit n) entries).traps
+      traps = ap (traps_from 0) is
 
-      waits : model.waits_from m 0 (histories_at p limit bs) ≡ (log_of (round p limit n) entries).waits
-      waits = waits_are m 0 (histories_at p limit bs) ∙ ap (log.waits_from 0) is
+      waits : waits_from 0 (histories_at p limit bs) ≡ (log_of (round p limit n) entries).waits
+      waits = ap (waits_from 0) is
 
   module _ (timely : IsTimely m) where
     the_causal : Causal (net p limit n m clean entries)

@@ -7,8 +7,10 @@ use Rattle.bs_log.specs.declared.history.Block.{Block}
 use Rattle.bs_log.specs.declared.log.Log.{Log}
 use Rattle.bs_log.specs.declared.outcome.Outcome.{Outcome}
 use Rattle.bs_log.specs.Collected.{log_of}
+use Rattle.bs_log.specs.Lists.{Mem}
+use Rattle.bs_log.specs.Messages.{sent}
 use Rattle.bs_semantics.specs.Run.{history}
-use Rattle.bs_semantics.specs.Rounds.{Mem, mail_to, sent, chares, round}
+use Rattle.bs_semantics.specs.Rounds.{mail_to, chares, round}
 use Rattle.bs_semantics.specs.Serial.{Machine, Started, find}
 use Rattle.bs_times.specs.Net.{Starts, net_of}
 use Rattle.bs_times.specs.Times.{IsConsistent}

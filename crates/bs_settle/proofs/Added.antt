@@ -5,7 +5,7 @@ use Rattle.std.proofs.lemmas.List.{length-append, length-set}
 use Rattle.std.proofs.lemmas.Option.{slice_get_within}
 use Rattle.bs_log.specs.declared.log.MailRef.{MailRef}
 use Rattle.bs_num.specs.declared.ticks.Tick.{Tick}
-use Rattle.bs_log.specs.ClosedTest.{Mem}
+use Rattle.bs_log.specs.Lists.{Mem}
 use Rattle.bs_times.specs.Net.{Net, HasRow}
 use Rattle.bs_times.specs.Times.{IsOn}
 use Rattle.bs_line.specs.declared.making.Estimate.{Estimate}

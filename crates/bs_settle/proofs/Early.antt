@@ -1,6 +1,6 @@
 -- Ticks below a bound.
 use Rattle.std.proofs.Common.{◌<◌, ◌^◌, ◌⊎◌, inl, inr, List, [], ◌∷◌, ◌++◌, sym, subst}
-use Rattle.bs_log.specs.ClosedTest.{Mem}
+use Rattle.bs_log.specs.Lists.{Mem}
 use Rattle.bs_num.specs.declared.ticks.Tick.{Tick}
 use Rattle.bs_times.proofs.Members.{mem_cases}
 

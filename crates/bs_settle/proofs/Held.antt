@@ -10,7 +10,8 @@ use Rattle.bs_times.specs.Racing.{same_mail}
 use Rattle.bs_times.proofs.Racing.{mail_tells}
 use Rattle.bs_schedule.specs.Plan.{at}
 use Rattle.bs_line.specs.declared.line.Line.{Line}
-use Rattle.bs_line.specs.Layout.{ComesTo, net_on, number_on, sends_of}
+use Rattle.bs_rows.specs.Rows.{net_on}
+use Rattle.bs_line.specs.Layout.{ComesTo, number_on, sends_of}
 use Rattle.bs_line.specs.Line.{IsReady, IsSameLine, given_of, held_of, net_at, starts_of, used_of}
 use Rattle.bs_line.specs.Places.{mail_place}
 use Rattle.bs_settle.specs.Changes.{CanBeHeld}

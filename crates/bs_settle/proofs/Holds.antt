@@ -1,7 +1,7 @@
 -- Fields that hold one message after another at other ticks.
 use Rattle.std.proofs.Common.{◌≡◌, ◌∙◌}
 use Rattle.bs_settle.specs.declared.field.Field.{Field}
-use Rattle.bs_line.specs.Layout.{net_on}
+use Rattle.bs_rows.specs.Rows.{net_on}
 use Rattle.bs_settle.specs.Field.{IsSameField, net_in}
 use Rattle.bs_settle.specs.Holding.{IsHolding}
 

@@ -1,5 +1,7 @@
 mod Listed
 mod Whole
+mod Passed
+mod Budget
 mod Joined
 mod Columns
 mod Lines
@@ -18,3 +20,4 @@ mod Made
 mod Early
 mod WaveLists
 mod OneNoting
+mod SomeNoting

@@ -8,8 +8,8 @@ use Rattle.std.proofs.lemmas.List.{length-append}
 use Rattle.std.proofs.lemmas.Option.{slice_get_within}
 use Rattle.bs_log.specs.declared.log.Log.{Log}
 use Rattle.bs_log.specs.declared.log.MailRef.{MailRef}
-use Rattle.bs_log.specs.ClosedTest.{Mem}
 use Rattle.bs_log.specs.Valid.{IsValid}
+use Rattle.bs_log.specs.Lists.{Mem}
 use Rattle.bs_machine.specs.declared.fitted.Fitted.{Fitted}
 use Rattle.bs_machine.specs.Fitted.{processors_of}
 use Rattle.bs_num.specs.declared.ticks.Tick.{Tick}
@@ -25,7 +25,7 @@ use Rattle.bs_settle.specs.declared.shares.Share.{Share}
 use Rattle.bs_settle.specs.Field.{AreFieldLines, IsField, given_of, net_in, ticks_of}
 use Rattle.bs_settle.specs.Lines.{begun_in}
 use Rattle.bs_settle.specs.Making.{AddsLine, AreLinesTo, IsMade, IsNew, IsWholeShare}
-use Rattle.bs_line.specs.Layout.{net_on}
+use Rattle.bs_rows.specs.Rows.{net_on}
 use Rattle.bs_settle.specs.Shares.{IsShareOf}
 use Rattle.bs_settle.proofs.Columns.{item_last, item_left, last_place, one_item}
 use Rattle.bs_settle.proofs.Lines.{given_at, held_at, receiver, sender}

@@ -7,7 +7,7 @@ use Rattle.bs_times.specs.Net.{Causal}
 use Rattle.bs_times.specs.Bounds.{IsShort}
 use Rattle.bs_times.proofs.Causal.{causal_net, fitted_is_timely}
 use Rattle.bs_times.proofs.Small.{short_net}
-use Rattle.bs_line.specs.Layout.{net_on}
+use Rattle.bs_rows.specs.Rows.{net_on}
 
 pub causal : (log : Log) (m : Fitted) → IsValid log → Causal (net_on log m)
 causal log m v = causal_net log (machine_of m) v (fitted_is_timely m)

@@ -4,7 +4,7 @@ use Rattle.std.proofs.Math.ListN.{drop_of_length-le}
 use Rattle.std.proofs.lemmas.Bool.{eq-eqb, eqb-true}
 use Rattle.std.proofs.lemmas.List.{length-replicate}
 use Rattle.bs_log.specs.declared.log.MailRef.{MailRef}
-use Rattle.bs_log.specs.ClosedTest.{Mem}
+use Rattle.bs_log.specs.Lists.{Mem}
 use Rattle.bs_num.specs.declared.ticks.Tick.{Tick}
 use Rattle.bs_times.specs.Net.{Net}
 use Rattle.bs_times.specs.Times.{IsListed}
@@ -17,7 +17,7 @@ use Rattle.bs_settle.specs.declared.field.Estimates.{Estimates}
 use Rattle.bs_settle.specs.declared.field.Estimates.TheVariants as estimates
 use Rattle.bs_settle.specs.declared.shares.Share.{Share}
 use Rattle.bs_settle.specs.Making.{IsWholeShare}
-use Rattle.bs_settle.specs.Shares.{AreShares, AreWhole, CanBegin, IsShareOf, from_test, ticks_by, to_test}
+use Rattle.bs_settle.specs.Shares.{AreTicksFor, CanBegin, IsShareOf, estimate_of, from_test, ticks_by, to_test}
 use Rattle.bs_line.proofs.Kept.{kept_among, kept_mails, kept_tick}
 use Rattle.bs_line.proofs.Ordered.{one_mails}
 use Rattle.bs_line.proofs.Chosen.{those_all}
@@ -37,29 +37,21 @@ zero_at zero i = refl
 zero_at (suc many) zero = refl
 zero_at (suc many) (suc i) = zero_at many i
 
-pub whole : (net : Net) (many : ℕ) (begin : Estimates) (mails : List MailRef) (shares : List Share) → CanBegin net begin → AreMails (IsListed net) mails → AreShares net many net.rows (length mails) mails (ticks_by begin (length mails)) shares → AreWhole net many begin shares
-whole net many estimates.Zero mails shares can listed are = record {
-  mails = mails;
-  ticks = replicate (length mails) zero_tick;
+pub begun_ticks : (net : Net) (begin : Estimates) (mails : List MailRef) → CanBegin net begin → AreMails (IsListed net) mails → AreTicksFor net mails (ticks_by begin (length mails))
+begun_ticks net estimates.Zero mails can listed = record {
   listed = listed;
   each = length-replicate (length mails) zero_tick;
   early = λ t m. let e = ap (λ (x : Tick). x.0) (zero_only (length mails) t m) in omega (arith, e);
-  by = λ m l. zero_at (length mails) (mail_place mails m);
-  shares_are = are;
 }
-whole net many (estimates.Given ticks) mails shares can listed are = record {
-  mails = mails;
-  ticks = ticks;
+begun_ticks net (estimates.Given ticks) mails can listed = record {
   listed = listed;
   each = can.each.each ∙ ap length (one_mails (IsListed net) can.each.mails mails can.each.listed listed);
   early = can.early;
-  by = λ m l. refl;
-  shares_are = are;
 }
 
-pub ticks_long : (net : Net) (begin : Estimates) (mails : List MailRef) → CanBegin net begin → AreMails (IsListed net) mails → length (ticks_by begin (length mails)) ≡ length mails
-ticks_long net estimates.Zero mails can listed = length-replicate (length mails) zero_tick
-ticks_long net (estimates.Given ticks) mails can listed = can.each.each ∙ ap length (one_mails (IsListed net) can.each.mails mails can.each.listed listed)
+pub begun_tick : (begin : Estimates) (mails : List MailRef) (m : MailRef) → at (numbers (ticks_by begin (length mails))) (mail_place mails m) ≡ estimate_of begin mails m
+begun_tick estimates.Zero mails m = zero_at (length mails) (mail_place mails m)
+begun_tick (estimates.Given ticks) mails m = refl
 
 -- ---- shares
 

@@ -5,8 +5,8 @@ use Rattle.std.specs.Ordering.{match_ordering}
 use Rattle.std.specs.BTreeMap.{insert_entry}
 use Rattle.std.specs.List.{AllByRecursion}
 use Rattle.std.specs.List.Sorted.{IsStrictlySortedBy}
-use Rattle.bs_log.specs.ClosedTest.{Mem}
 use Rattle.bs_log.specs.Rising.{IsLower}
+use Rattle.bs_log.specs.Lists.{Mem}
 use Rattle.bs_times.proofs.Members.{map_mem, mem_map}
 use Rattle.bs_line.specs.declared.corrections.Correction.{Correction}
 use Rattle.bs_line.proofs.Keys.{Stands, key_cmp, key_less, stands}

@@ -3,7 +3,7 @@ use Rattle.std.proofs.Common.{◌≡◌, ◌≢◌, ◌≤◌, ◌<◌, ◌+◌,
 use Rattle.std.specs.List.{slice_get}
 use Rattle.std.proofs.lemmas.Bool.{true≢false}
 use Rattle.std.proofs.lemmas.Option.{slice_get_within}
-use Rattle.bs_log.specs.ClosedTest.{Mem}
+use Rattle.bs_log.specs.Lists.{Mem}
 use Rattle.bs_times.specs.Net.{Net, Ticks, Causal}
 use Rattle.bs_times.specs.Times.{IsWave}
 use Rattle.bs_times.specs.Racing.{Raced}
@@ -13,7 +13,7 @@ use Rattle.bs_settle.specs.declared.field.Field.{Field}
 use Rattle.bs_settle.specs.Changes.{AreChanges, ChangesRise}
 use Rattle.bs_settle.specs.Field.{IsField, net_in, ticks_of, world_of}
 use Rattle.bs_settle.specs.Noted.{AreListsOf, AreNoted, IsListOf}
-use Rattle.bs_line.specs.Layout.{net_on}
+use Rattle.bs_rows.specs.Rows.{net_on}
 use Rattle.bs_settle.specs.Settled.{ChangesAt, OfWaves}
 use Rattle.bs_settle.proofs.Columns.{item_last, item_left, last_place, one_item}
 use Rattle.bs_settle.proofs.Premises.{causal}

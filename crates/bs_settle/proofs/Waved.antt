@@ -4,7 +4,7 @@ use Rattle.std.specs.List.{slice_get}
 use Rattle.std.proofs.lemmas.Bool.{cases_Bool, cases_eq, true≢false}
 use Rattle.std.proofs.lemmas.Option.{slice_get_within}
 use Rattle.bs_log.specs.declared.log.MailRef.{MailRef}
-use Rattle.bs_log.specs.ClosedTest.{Mem}
+use Rattle.bs_log.specs.Lists.{Mem}
 use Rattle.bs_times.specs.Net.{Net, Ticks, Causal}
 use Rattle.bs_times.specs.Times.{HasLine, IsLine, IsListed, IsTable, arrival}
 use Rattle.bs_times.specs.Racing.{IsDirty, IsEven, IsUpToDate, Raced, same_mail}

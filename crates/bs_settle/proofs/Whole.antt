@@ -2,28 +2,27 @@
 use Rattle.std.proofs.Common.{◌≡◌, ◌≤◌, ◌<◌, ◌⊎◌, inl, inr, ◌^◌, ℕ, zero, suc, ◌+◌, ◌*◌, List, [], length, get_or, map, subst, sym, ap, ◌∙◌, arith}
 use Rattle.bs_log.specs.declared.log.MailRef.{MailRef}
 use Rattle.bs_log.specs.declared.log.Log.{Log}
-use Rattle.bs_log.specs.ClosedTest.{Mem}
 use Rattle.bs_log.specs.Valid.{IsValid}
+use Rattle.bs_log.specs.Lists.{Mem}
 use Rattle.bs_machine.specs.declared.fitted.Fitted.{Fitted}
 use Rattle.bs_machine.specs.Fitted.{processors_of}
 use Rattle.bs_machine.proofs.Bounds.{has_bounds}
 use Rattle.bs_schedule.specs.declared.plan.Cause.{Cause}
 use Rattle.bs_schedule.specs.declared.plan.Plan.{Plan}
-use Rattle.bs_schedule.specs.Plan.{AreRows, IsSchedule, at}
-use Rattle.bs_schedule.proofs.Relabel.{whole_schedule}
+use Rattle.bs_schedule.specs.Plan.{AreRows, at}
 use Rattle.bs_schedule.specs.Whole.{IsWholePlan, block_cause, mail_cause, causes_in}
 use Rattle.bs_times.specs.Machine.{machine_of}
 use Rattle.bs_times.specs.Net.{Causal, HasRow, row_of, sent_of}
+use Rattle.bs_times.specs.Times.{IsConsistent}
 use Rattle.bs_times.proofs.Causal.{causal_net, fitted_is_timely}
 use Rattle.bs_times.proofs.Found.{row_fits, send_fits}
 use Rattle.bs_times.proofs.Members.{cases_le, mem_cases, map_mem}
 use Rattle.bs_settle.specs.declared.times.Times.{Times}
 use Rattle.bs_settle.specs.Timed.{AreTimes, ends_from, numbers, starts_from}
-use Rattle.bs_line.specs.Layout.{net_on}
-use Rattle.bs_line.specs.Making.{IsSend}
+use Rattle.bs_rows.specs.Rows.{net_on, IsSend}
+use Rattle.bs_rows.proofs.Numbered.{rows_few, mail_sent}
 use Rattle.bs_settle.specs.Planned.{by_row}
 use Rattle.bs_settle.proofs.Listed.{by_row_at, by_row_first, by_row_long, by_row_past}
-use Rattle.bs_line.proofs.Numbered.{rows_few, mail_sent}
 
 pub home_below : (m : Fitted) (chare : ℕ) → chare < m.chares → (machine_of m).home chare < processors_of m
 unfolding machine_of
@@ -38,7 +37,7 @@ module _ (log : Log) (m : Fitted) (v : IsValid log) where
       let cost = (row_fits log i v has.0 has.1).ranges.cost in
       (fitted_is_timely m).duration (row_of log i).cost cost.least_is cost.most_is
 
-  travel_small : (k : MailRef) → IsSend log k → (net_on log m).travel k < 2 ^ 49
+  pub travel_small : (k : MailRef) → IsSend log k → (net_on log m).travel k < 2 ^ 49
   travel_small k is =
       let fits = send_fits log k v is.row_some is.row_most is.index_some is.index_most in
       let lasts = (fitted_is_timely m).duration (sent_of log k).offset fits.offset.least_is fits.offset.most_is in
@@ -104,10 +103,10 @@ whole log m plan homes times causes = record {
 pub starts_small : (log : Log) (m : Fitted) (plan : Plan) (base starts : List ℕ) → IsValid log → IsWholePlan (net_on log m) plan → ((i : ℕ) → at base i ≡ 0) → ((most : ℕ) → ((i : ℕ) → at base i ≤ most) → (i : ℕ) → at starts i ≤ most + length plan.times * 2 ^ 65) → (i : ℕ) → at starts i ≤ 2 ^ 100
 starts_small log m plan base starts v w zeros bound i = omega (arith, bound 0 (λ k. omega (arith, zeros k)) i, w.rows, rows_few log v)
 
-pub are_times : (log : Log) (m : Fitted) (plan : Plan) (base starts : List ℕ) (times : Times) → IsValid log → IsWholePlan (net_on log m) plan → ((i : ℕ) → at base i ≡ 0) → IsSchedule plan base (at starts) → ((i : ℕ) → at starts i ≤ 2 ^ 100) → numbers times.starts ≡ starts_from (at starts) 1 log.rows → numbers times.ends ≡ ends_from (machine_of m) (at starts) 1 log.rows → AreTimes log (machine_of m) times
-are_times log m plan base starts times v w zeros is small begins ends = record {
+pub are_times : (log : Log) (m : Fitted) (starts : List ℕ) (times : Times) → IsValid log → IsConsistent (net_on log m) (at starts) → ((i : ℕ) → at starts i ≤ 2 ^ 100) → numbers times.starts ≡ starts_from (at starts) 1 log.rows → numbers times.ends ≡ ends_from (machine_of m) (at starts) 1 log.rows → AreTimes log (machine_of m) times
+are_times log m starts times v is small begins ends = record {
   table = at starts;
-  is_consistent = whole_schedule (net_on log m) plan base (at starts) w zeros is;
+  is_consistent = is;
   starts = begins;
   ends = ends;
   in_range = λ i has.

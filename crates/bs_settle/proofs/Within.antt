@@ -2,8 +2,8 @@
 use Rattle.std.proofs.Common.{◌≡◌, ◌≤◌, ◌<◌, ◌+◌, ◌⊎◌, inl, inr, ℕ, zero, suc, List, [], ◌∷◌, Option, Some, None, refl, sym, ap, subst, ◌∙◌, arith}
 use Rattle.std.proofs.lemmas.Bool.{cases_eq, true≢false}
 use Rattle.bs_log.specs.declared.log.MailRef.{MailRef}
-use Rattle.bs_log.specs.ClosedTest.{Mem}
 use Rattle.bs_log.specs.Rising.{IsLower}
+use Rattle.bs_log.specs.Lists.{Mem}
 use Rattle.bs_times.specs.Net.{Net, Ticks, Causal}
 use Rattle.bs_times.specs.Times.{AreWaves, IsWave, SameTicks, budget}
 use Rattle.bs_times.specs.Racing.{IsDirty, Raced, World}
@@ -19,7 +19,7 @@ use Rattle.bs_settle.specs.declared.field.Field.{Field}
 use Rattle.bs_settle.specs.declared.settling.BudgetSpent.{BudgetSpent}
 use Rattle.bs_settle.specs.Changes.{AreChanges, ChangesRise, HasChange, IsChange}
 use Rattle.bs_settle.specs.Field.{FitsAsBefore, IsField, net_in, ticks_of, world_of}
-use Rattle.bs_line.specs.Layout.{net_on}
+use Rattle.bs_rows.specs.Rows.{net_on}
 use Rattle.bs_settle.specs.Settled.{AreWithin, ChangesAt, IsLeastChange, IsSpent, OfWaves, StillAt}
 use Rattle.bs_settle.proofs.Premises.{causal}
 

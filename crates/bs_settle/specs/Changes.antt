@@ -1,8 +1,8 @@
 -- Which ticks changed, and in which order they are answered (docs/model.md).
 use Rattle.std.specs.Prelude.{◌≡◌, ◌≢◌, ◌↔◌, ◌<◌, ◌^◌, ℕ, if◌then◌else◌, List, [], ◌∷◌}
 use Rattle.bs_log.specs.declared.log.MailRef.{MailRef}
-use Rattle.bs_log.specs.ClosedTest.{InOrder, Mem}
 use Rattle.bs_log.specs.Rising.{IsLower}
+use Rattle.bs_log.specs.Lists.{InOrder, Mem}
 use Rattle.bs_times.specs.Net.{Net, Ticks}
 use Rattle.bs_times.specs.Times.{IsListed}
 use Rattle.bs_times.specs.Racing.{same_mail}

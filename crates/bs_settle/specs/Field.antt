@@ -7,7 +7,7 @@ use Rattle.bs_times.specs.Times.{IsListed}
 use Rattle.bs_times.specs.Racing.{World}
 use Rattle.bs_times.specs.Bounds.{AllFit}
 use Rattle.bs_settle.specs.declared.field.Field.{Field}
-use Rattle.bs_line.specs.Layout.{net_on}
+use Rattle.bs_rows.specs.Rows.{net_on}
 use Rattle.bs_settle.specs.Lines.{AreLines, given_in, held_in, starts_in, world_in}
 
 -- the net of the field's log on its machine

@@ -1,7 +1,7 @@
 -- Lines that were recomputed, and what they answered (docs/model.md).
 use Rattle.std.specs.Prelude.{◌≡◌, ◌≢◌, ◌≤◌, ◌<◌, ℕ, List, Some, map, length, slice_get}
 use Rattle.bs_log.specs.declared.log.MailRef.{MailRef}
-use Rattle.bs_log.specs.ClosedTest.{Mem}
+use Rattle.bs_log.specs.Lists.{Mem}
 use Rattle.bs_times.specs.Net.{Net}
 use Rattle.bs_line.specs.declared.corrections.Correction.{Correction}
 use Rattle.bs_line.specs.declared.line.Line.{Line}

@@ -1,7 +1,7 @@
 -- How the lines of a log are made (docs/model.md).
 use Rattle.std.specs.Prelude.{◌≡◌, ◌<◌, ◌⊎◌, ◌++◌, ◌^◌, ℕ, false, List, [], ◌∷◌, Some, length, slice_get}
 use Rattle.bs_log.specs.declared.log.MailRef.{MailRef}
-use Rattle.bs_log.specs.ClosedTest.{Mem}
+use Rattle.bs_log.specs.Lists.{Mem}
 use Rattle.bs_num.specs.declared.ticks.Tick.{Tick}
 use Rattle.bs_times.specs.Net.{Net}
 use Rattle.bs_times.specs.Times.{HasLine, IsOn}

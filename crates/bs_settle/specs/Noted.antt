@@ -1,6 +1,6 @@
 -- The lists of what the waves from estimates change, up to a budget (docs/model.md).
 use Rattle.std.specs.Prelude.{◌≡◌, ◌≢◌, ◌≤◌, ◌++◌, ℕ, suc, Bool, true, false, List, [], ◌∷◌, Some, length, slice_get}
-use Rattle.bs_log.specs.ClosedTest.{Mem}
+use Rattle.bs_log.specs.Lists.{Mem}
 use Rattle.bs_times.specs.Net.{Net, Ticks}
 use Rattle.bs_line.specs.declared.corrections.Correction.{Correction}
 use Rattle.bs_settle.specs.Changes.{AreChanges, ChangesRise}

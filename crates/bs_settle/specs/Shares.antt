@@ -1,10 +1,10 @@
 -- What of a log falls to each processor (docs/model.md).
 use Rattle.std.specs.Prelude.{◌≡◌, ◌≤◌, ◌<◌, ◌^◌, ◌==◌, ◌++◌, ℕ, Bool, List, length, Some, slice_get, drop, replicate}
 use Rattle.bs_log.specs.declared.log.MailRef.{MailRef}
-use Rattle.bs_log.specs.ClosedTest.{Mem}
+use Rattle.bs_log.specs.Lists.{Mem}
 use Rattle.bs_num.specs.declared.ticks.Tick.{Tick}
-use Rattle.bs_times.specs.Net.{Net, Ticks}
-use Rattle.bs_times.specs.Times.{IsListed, IsOn}
+use Rattle.bs_times.specs.Net.{Net, Starts, Ticks}
+use Rattle.bs_times.specs.Times.{IsListed, IsOn, arrival}
 use Rattle.bs_schedule.specs.Plan.{at}
 use Rattle.bs_line.specs.declared.making.Estimate.{Estimate}
 use Rattle.bs_line.specs.Making.{AreEstimates, kept, numbers}
@@ -31,6 +31,10 @@ ticks_by (estimates.Given ticks) many = ticks
 abbrev pub estimate_of : Estimates → List MailRef → Ticks
 estimate_of estimates.Zero mails m = 0
 estimate_of (estimates.Given ticks) mails m = at (numbers ticks) (mail_place mails m)
+
+-- a message's arrival, by the start of its sender
+abbrev pub arriving : Net → Starts → MailRef → Tick
+arriving net s m = record { 0 = arrival net s m }
 
 abbrev pub to_test : Net → ℕ → MailRef → Bool
 to_test net p m = net.goes_to m == p
@@ -60,12 +64,13 @@ pub record AreAdded (old new : List Share) (rows : ℕ → List ℕ) (comes goes
   pub long : length new ≡ length old
   pub each : (p : ℕ) (b : Share) → slice_get new p ≡ Some b → (a : Share) × (slice_get old p ≡ Some a) × IsAdded a b (rows p) (comes p) (goes p)
 
--- all shares of a log
-pub record AreWhole (net : Net) (many : ℕ) (begin : Estimates) (shares : List Share) : Type 0 where
-  pub mails : List MailRef
-  pub ticks : List Tick
+-- the listed messages, and a tick below 2^107 for each of them
+pub record AreTicksFor (net : Net) (mails : List MailRef) (ticks : List Tick) : Type 0 where
   pub listed : AreMails (IsListed net) mails
   pub each : length ticks ≡ length mails
   pub early : (t : Tick) → Mem t ticks → t.0 < 2 ^ 107
-  pub by : (m : MailRef) → IsListed net m → at (numbers ticks) (mail_place mails m) ≡ estimate_of begin mails m
+
+-- all shares of a log
+pub record AreWhole (net : Net) (many : ℕ) (mails : List MailRef) (ticks : List Tick) (shares : List Share) : Type 0 where
+  pub ticks_for : AreTicksFor net mails ticks
   pub shares_are : AreShares net many net.rows (length mails) mails ticks shares

@@ -2,12 +2,11 @@
 ghost use Rattle.std.specs.Prelude.{◌≡◌, ◌≤◌, length};
 ghost use Rattle.bs_log.specs.Valid.{IsValid};
 ghost use Rattle.bs_schedule.specs.Whole.{block_cause, mail_cause};
-ghost use Rattle.bs_line.specs.Layout.{net_on};
-ghost use Rattle.bs_line.specs.Making.{IsSend};
+ghost use Rattle.bs_rows.specs.Rows.{net_on, IsSend};
 
-use bs_line::finding::{duration, travel};
 use bs_log::{Log, MailRef};
 use bs_machine::Fitted;
+use bs_rows::{duration, travel};
 use bs_schedule::Cause;
 
 // A row as a cause: it lets others start when it ends.

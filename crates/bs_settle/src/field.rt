@@ -1,15 +1,15 @@
 // The lines of all processors of a log.
-ghost use Rattle.std.specs.Prelude.{◌≡◌, length};
+ghost use Rattle.std.specs.Prelude.{◌≡◌, ◌≤◌, ◌^◌, length};
 ghost use Rattle.bs_log.specs.Valid.{IsValid};
 ghost use Rattle.bs_times.specs.Net.{row_of};
 ghost use Rattle.bs_times.specs.Times.{budget, greatest_to};
 ghost use Rattle.bs_settle.specs.Field.{IsField, net_in};
 
 use bs_line::Line;
-use bs_line::finding::{count, row_at};
 use bs_log::Log;
 use bs_machine::Fitted;
 use bs_num::Tick;
+use bs_rows::{count, row_at};
 use bs_tree::List;
 
 /// When the messages of a log are thought to arrive, before anything is known.
@@ -50,10 +50,11 @@ impl<'l> Field<'l> {
     }
 
     /// So many waves are enough from any estimates: the number of rows times (the greatest depth + 1),
-    /// and 2. It takes no memory.
+    /// and 2. It is at most 2^40, and takes no memory.
     pub fn budget(&self) -> u64
         requires { IsField self.now }
-        ensures { result ≡ budget (net_in self.now) }
+        ensures value { result ≡ budget (net_in self.now) }
+        ensures range { (1 ≤ result) × (result ≤ 2 ^ 40) }
     {
         let rows = count(self.log);
         u64::from(rows) * (u64::from(greatest_depth(self.log)) + 1) + 2

@@ -1,7 +1,7 @@
 // Setting what a wave gives.
 ghost use Rattle.std.specs.Prelude.{◌≡◌, map, if◌then◌else◌};
-ghost use Rattle.bs_log.specs.ClosedTest.{Mem};
 ghost use Rattle.bs_log.specs.Valid.{IsValid};
+ghost use Rattle.bs_log.specs.Lists.{Mem};
 ghost use Rattle.bs_log.specs.declared.log.MailRef.{MailRef as Mail};
 ghost use Rattle.bs_times.specs.Times.{IsListed};
 ghost use Rattle.bs_times.specs.Racing.{same_mail};

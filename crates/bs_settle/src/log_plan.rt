@@ -3,13 +3,13 @@ ghost use Rattle.std.specs.Prelude.{◌≡◌, ◌≤◌, ◌++◌, [], map, len
 ghost use Rattle.bs_log.specs.Valid.{IsValid};
 ghost use Rattle.bs_schedule.specs.Plan.{IsPlan};
 ghost use Rattle.bs_schedule.specs.Whole.{IsWholePlan, block_cause, causes_in, mail_cause};
-ghost use Rattle.bs_line.specs.Layout.{net_on};
+ghost use Rattle.bs_rows.specs.Rows.{net_on};
 ghost use Rattle.bs_settle.specs.Planned.{by_row};
 
 use crate::causes::{block_cause, mail_cause};
-use bs_line::finding::{count, duration, home, row_at};
 use bs_log::Log;
 use bs_machine::Fitted;
+use bs_rows::{count, duration, home, row_at};
 use bs_schedule::{Cause, Plan};
 use bs_tree::List;
 use std::alloc::{AllocError, Global};

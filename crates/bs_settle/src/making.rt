@@ -4,18 +4,21 @@ ghost use Rattle.bs_log.specs.Valid.{IsValid};
 ghost use Rattle.bs_log.specs.declared.log.MailRef.{MailRef as Mail};
 ghost use Rattle.bs_machine.specs.Fitted.{processors_of};
 ghost use Rattle.bs_times.specs.Times.{IsListed};
-ghost use Rattle.bs_line.specs.Places.{AreMails};
-ghost use Rattle.bs_settle.specs.declared.field.Estimates.{Estimates as Begin};
+ghost use Rattle.bs_line.specs.Making.{numbers};
+ghost use Rattle.bs_line.specs.Places.{AreMails, mail_place};
+ghost use Rattle.bs_num.specs.declared.ticks.Tick.{Tick as Moment};
+ghost use Rattle.bs_schedule.specs.Plan.{at};
 ghost use Rattle.bs_settle.specs.Field.{IsField, net_in, ticks_of, world_of};
 ghost use Rattle.bs_settle.specs.Making.{AddsLine, AreLinesTo, IsWholeShare};
-ghost use Rattle.bs_line.specs.Layout.{net_on};
-ghost use Rattle.bs_settle.specs.Shares.{AreWhole, CanBegin, estimate_of};
+ghost use Rattle.bs_rows.specs.Rows.{net_on};
+ghost use Rattle.bs_settle.specs.Shares.{AreTicksFor, AreWhole, CanBegin, estimate_of, ticks_by};
 
 use crate::field::{Estimates, Field};
 use crate::shares::{Share, shares};
-use bs_line::Line;
-use bs_log::Log;
+use bs_line::{Line, listed};
+use bs_log::{Log, MailRef};
 use bs_machine::Fitted;
+use bs_num::Tick;
 use bs_tree::List;
 use std::alloc::{AllocError, Global};
 
@@ -40,7 +43,30 @@ impl<'l> Field<'l> {
         ensures ticks { IfOk result (λ field. (mails : List Mail) × AreMails (IsListed (net_on log.now machine.now)) mails × ((m : Mail) → IsListed (net_on log.now machine.now) m → ticks_of field m ≡ estimate_of estimates mails m)) }
         ensures begun { IfOk result (λ field. (p : ℕ) → (world_of field).begun p ≡ false) }
     {
-        let shares = shares(alloc, log, machine, estimates)?;
+        let mails = listed(alloc, log)?;
+        let ticks = ticks(alloc, estimates, mails.as_slice().len())?;
+        let field = Field::of_ticks(alloc, log, machine, mails.as_slice(), ticks.as_slice())?;
+        Ok(field)
+    }
+
+    // The same, where these are the listed messages and their ticks.
+    pub(crate) fn of_ticks(
+        alloc: Global,
+        log: &'l Log,
+        machine: &'l Fitted,
+        mails: &[MailRef],
+        ticks: &[Tick],
+    ) -> Result<Field<'l>, AllocError>
+        requires valid { IsValid log.now }
+        requires fitted { machine.now.chares ≡ log.now.chares }
+        requires ticks { AreTicksFor (net_on log.now machine.now) mails.now ticks.now }
+        ensures field { IfOk result IsField }
+        ensures log { IfOk result (λ field. field.log.now ≡ log.now) }
+        ensures machine { IfOk result (λ field. field.machine.now ≡ machine.now) }
+        ensures ticks { IfOk result (λ field. (m : Mail) → IsListed (net_on log.now machine.now) m → ticks_of field m ≡ at (numbers ticks.now) (mail_place mails.now m)) }
+        ensures begun { IfOk result (λ field. (p : ℕ) → (world_of field).begun p ≡ false) }
+    {
+        let shares = shares(alloc, log, machine, mails, ticks)?;
         let mut field = Field {
             log,
             machine,
@@ -57,10 +83,10 @@ impl<'l> Field<'l> {
         requires fitted { self.old.machine.now.chares ≡ self.old.log.now.chares }
         requires no_places { self.old.places.items ≡ [] }
         requires no_lines { self.old.lines.items ≡ [] }
-        requires whole { (begin : Begin) × AreWhole (net_in self.old) (processors_of self.old.machine.now) begin shares.now }
+        requires whole { (mails : List Mail) × (ticks : List Moment) × AreWhole (net_in self.old) (processors_of self.old.machine.now) mails ticks shares.now }
         ensures log { self.new.log ≡ self.old.log }
         ensures machine { self.new.machine ≡ self.old.machine }
-        ensures made { OnOk result ((begin : Begin) (w : AreWhole (net_in self.old) (processors_of self.old.machine.now) begin shares.now) → AreLinesTo (net_in self.old) w.mails w.ticks (processors_of self.old.machine.now) self.new.places.items self.new.lines.items) }
+        ensures made { OnOk result ((mails : List Mail) (ticks : List Moment) → AreWhole (net_in self.old) (processors_of self.old.machine.now) mails ticks shares.now → AreLinesTo (net_in self.old) mails ticks (processors_of self.old.machine.now) self.new.places.items self.new.lines.items) }
     {
         for processor in 0..self.machine.processors() {
             self.add(alloc, processor, &shares[processor as usize])?;
@@ -97,5 +123,18 @@ impl<'l> Field<'l> {
     {
         self.lines.push(line)?;
         Ok(())
+    }
+}
+
+// The estimate of each of so many messages.
+fn ticks(alloc: Global, estimates: Estimates, many: usize) -> Result<List<Tick>, AllocError>
+    ensures { IfOk result (λ ticks. ticks ≡ ticks_by estimates many) }
+{
+    match estimates {
+        Estimates::Zero => {
+            let ticks = vec![in alloc; Tick(0); many]?;
+            Ok(List::from_vec(ticks))
+        }
+        Estimates::Given(ticks) => Ok(ticks),
     }
 }

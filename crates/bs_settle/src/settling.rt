@@ -1,6 +1,6 @@
 // Waves until no tick changes.
 ghost use Rattle.std.specs.Prelude.{◌≡◌, ◌≤◌, ◌<◌, ◌+◌, ◌^◌, ◌∷◌, [], ℕ, List, IfErr, IfOk, MatchOption, length};
-ghost use Rattle.bs_log.specs.ClosedTest.{Mem};
+ghost use Rattle.bs_log.specs.Lists.{Mem};
 ghost use Rattle.bs_line.specs.declared.corrections.Correction.{Correction as Corrected};
 ghost use Rattle.bs_times.specs.Machine.{machine_of};
 ghost use Rattle.bs_times.specs.Net.{HasRow};
@@ -12,9 +12,9 @@ ghost use Rattle.bs_settle.specs.Timed.{AreTimes};
 use crate::field::Field;
 use crate::times::{Times, timed_rows};
 use bs_line::Correction;
-use bs_line::finding::{count, home};
 use bs_log::MailRef;
 use bs_num::Tick;
+use bs_rows::{count, home};
 use std::alloc::{AllocError, Global};
 
 /// The last wave of a budget still changed a tick.

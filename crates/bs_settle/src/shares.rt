@@ -1,23 +1,21 @@
 // What of a log falls to each processor.
 ghost use Rattle.std.specs.Prelude.{◌≡◌, ◌<◌, ◌==◌, ◌++◌, ◌∷◌, [], ℕ, List, IfOk, OnOk, length};
-ghost use Rattle.bs_log.specs.ClosedTest.{Mem};
 ghost use Rattle.bs_log.specs.Valid.{IsValid};
+ghost use Rattle.bs_log.specs.Lists.{Mem};
 ghost use Rattle.bs_log.specs.declared.log.MailRef.{MailRef as Mail};
 ghost use Rattle.bs_num.specs.declared.ticks.Tick.{Tick as Ticks};
 ghost use Rattle.bs_machine.specs.Fitted.{processors_of};
 ghost use Rattle.bs_times.specs.Net.{Net as Links};
 ghost use Rattle.bs_line.specs.Listing.{row_if};
 ghost use Rattle.bs_line.specs.Making.{kept_one};
-ghost use Rattle.bs_line.specs.Layout.{net_on};
-ghost use Rattle.bs_line.specs.Making.{IsSend};
-ghost use Rattle.bs_settle.specs.Shares.{AreAdded, AreShares, AreWhole, CanBegin, ticks_by};
+ghost use Rattle.bs_rows.specs.Rows.{net_on, IsSend};
+ghost use Rattle.bs_settle.specs.Shares.{AreAdded, AreShares, AreTicksFor, AreWhole};
 
-use crate::field::Estimates;
-use bs_line::finding::{count, goes_to, home};
-use bs_line::{Estimate, listed};
+use bs_line::Estimate;
 use bs_log::{Log, MailRef};
 use bs_machine::Fitted;
 use bs_num::Tick;
+use bs_rows::{count, goes_to, home};
 use bs_tree::List;
 use std::alloc::{AllocError, Global};
 
@@ -29,43 +27,23 @@ pub(crate) struct Share {
     pub(crate) goes: List<Estimate>,
 }
 
-// What falls to each processor.
+// What falls to each processor, of the listed messages with their ticks.
 pub(crate) fn shares(
     alloc: Global,
     log: &Log,
     machine: &Fitted,
-    estimates: Estimates,
+    mails: &[MailRef],
+    ticks: &[Tick],
 ) -> Result<Vec<Share>, AllocError>
     requires valid { IsValid log.now }
     requires fitted { machine.now.chares ≡ log.now.chares }
-    requires begin { CanBegin (net_on log.now machine.now) estimates }
-    ensures { IfOk result (λ shares. AreWhole (net_on log.now machine.now) (processors_of machine.now) estimates shares.items) }
+    requires ticks { AreTicksFor (net_on log.now machine.now) mails.now ticks.now }
+    ensures { IfOk result (λ shares. AreWhole (net_on log.now machine.now) (processors_of machine.now) mails.now ticks.now shares.items) }
 {
-    let mails = listed(alloc, log)?;
-    let ticks = ticks(alloc, estimates, mails.as_slice().len())?;
     let mut shares = no_shares(alloc, machine.processors())?;
     share_rows(log, machine, &mut shares)?;
-    share_mails(
-        log,
-        machine,
-        mails.as_slice(),
-        ticks.as_slice(),
-        &mut shares,
-    )?;
+    share_mails(log, machine, mails, ticks, &mut shares)?;
     Ok(shares)
-}
-
-// The estimate of each of so many messages.
-fn ticks(alloc: Global, estimates: Estimates, many: usize) -> Result<List<Tick>, AllocError>
-    ensures { IfOk result (λ ticks. ticks ≡ ticks_by estimates many) }
-{
-    match estimates {
-        Estimates::Zero => {
-            let ticks = vec![in alloc; Tick(0); many]?;
-            Ok(List::from_vec(ticks))
-        }
-        Estimates::Given(ticks) => Ok(ticks),
-    }
 }
 
 // A share of nothing for each of so many processors.

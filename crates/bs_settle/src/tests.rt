@@ -1,14 +1,16 @@
 // The worked log of four rows, on two processors that take the chares in turn.
 ghost use Rattle.std.specs.Prelude.{◌<◌, ◌^◌, IfOk};
-ghost use Rattle.bs_log.specs.ClosedTest.{Mem};
 ghost use Rattle.bs_log.specs.Valid.{IsValid};
+ghost use Rattle.bs_log.specs.Lists.{Mem};
 ghost use Rattle.bs_machine.specs.declared.fitted.Fitted.{Fitted as Machine};
 ghost use Rattle.bs_num.specs.declared.ticks.Tick.{Tick as Moment};
 ghost use Rattle.bs_settle.specs.Field.{IsField};
-ghost use Rattle.bs_line.specs.Layout.{net_on};
+ghost use Rattle.bs_rows.specs.Rows.{net_on};
 ghost use Rattle.bs_settle.specs.Shares.{CanBegin};
 
-use crate::{BudgetSpent, Correction, Estimates, Field, Noted, SettleFault, plain_times};
+use crate::{
+    BudgetSpent, Correction, Estimates, Field, Noted, SettleFault, plain_times, settled_times,
+};
 use bs_line::listed;
 use bs_log::{Key, Log, MailRef, Row, Sent, valid};
 use bs_machine::{Fitted, read_machine};
@@ -309,5 +311,22 @@ fn plain_times_are_those_of_the_waves(rt: HostRuntime) -> Result<(), Fail> {
     let times = plain_times(alloc, &log, &machine)?;
     let ends = [Tick(28), Tick(2), Tick(24), Tick(18)];
     assert_eq!(rt; times.ends.as_slice(), ends.as_slice());
+    Ok(())
+}
+
+#[test]
+fn one_pass_leaves_the_first_wave_nothing_to_change(rt: HostRuntime) -> Result<(), Fail> {
+    let alloc = rt.alloc();
+    let log = worked_log(alloc)?;
+    let machine = worked_machine(alloc)?;
+    if !valid(&log) || machine.chares != log.chares {
+        return Err("not valid or not fitted".into());
+    }
+    let mut field = Field::from_pass(alloc, &log, &machine)?;
+    let list = field.wave(alloc)?;
+    assert_eq!(rt; list.as_slice().len(), 0);
+    let times = settled_times(alloc, &log, &machine)?;
+    let starts = [Tick(18), Tick(0), Tick(23), Tick(8)];
+    assert_eq!(rt; times.starts.as_slice(), starts.as_slice());
     Ok(())
 }

@@ -1,15 +1,17 @@
 // The consistent table of a log.
-ghost use Rattle.std.specs.Prelude.{◌≡◌, ◌+◌, ◌<◌, ◌^◌, ℕ, IfOk, length};
+ghost use Rattle.std.specs.Prelude.{◌≡◌, ◌+◌, ◌<◌, ◌≤◌, ◌^◌, ℕ, IfOk, length};
 ghost use Rattle.bs_log.specs.Valid.{IsValid};
 ghost use Rattle.bs_schedule.specs.Plan.{at};
+ghost use Rattle.bs_rows.specs.Rows.{net_on};
 ghost use Rattle.bs_times.specs.Machine.{machine_of};
+ghost use Rattle.bs_times.specs.Times.{IsConsistent};
 ghost use Rattle.bs_settle.specs.Timed.{AreTimes, ends_from, numbers, starts_from};
 
 use crate::log_plan::log_plan;
-use bs_line::finding::{count, duration};
 use bs_log::Log;
 use bs_machine::Fitted;
 use bs_num::Tick;
+use bs_rows::{count, duration};
 use bs_schedule::schedule;
 use bs_tree::List;
 use std::alloc::{AllocError, Global};
@@ -36,11 +38,28 @@ pub fn plain_times(alloc: Global, log: &Log, machine: &Fitted) -> Result<Times, 
     requires fitted { machine.now.chares ≡ log.now.chares }
     ensures { IfOk result (AreTimes log.now (machine_of machine.now)) }
 {
+    let starts = plain_starts(alloc, log, machine)?;
+    let times = timed_rows(alloc, log, machine, &starts)?;
+    Ok(times)
+}
+
+// The starts of the consistent table by the rows' numbers, in one pass over the rows in the order of their
+// ready ticks.
+pub(crate) fn plain_starts(
+    alloc: Global,
+    log: &Log,
+    machine: &Fitted,
+) -> Result<Vec<u128>, AllocError>
+    requires valid { IsValid log.now }
+    requires fitted { machine.now.chares ≡ log.now.chares }
+    ensures each { IfOk result (λ starts. length starts.items ≡ length log.now.rows + 1) }
+    ensures early { IfOk result (λ starts. (i : ℕ) → at starts.items i ≤ 2 ^ 100) }
+    ensures consistent { IfOk result (λ starts. IsConsistent (net_on log.now machine.now) (at starts.items)) }
+{
     let plan = log_plan(alloc, log, machine)?;
     let base = vec![in alloc; 0; plan.times.as_slice().len()]?;
     let starts = schedule(alloc, &plan, &base)?;
-    let times = timed_rows(alloc, log, machine, &starts)?;
-    Ok(times)
+    Ok(starts)
 }
 
 // The times of rows that start at these ticks, by number.

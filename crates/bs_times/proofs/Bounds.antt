@@ -2,7 +2,7 @@
 use Rattle.std.proofs.Common.{◌≡◌, ℕ, zero, suc, ◌+◌, ◌*◌, ◌^◌, ◌<◌, ◌≤◌, max, List, [], ◌∷◌, length, inl, inr, refl, ◌∙◌, arith}
 use Rattle.std.proofs.lemmas.Nat.{mul-le}
 use Rattle.bs_log.specs.declared.log.MailRef.{MailRef}
-use Rattle.bs_log.specs.ClosedTest.{Mem}
+use Rattle.bs_log.specs.Lists.{Mem}
 use Rattle.bs_times.specs.Net.{Net, Starts, Ticks, HasRow, Causal}
 use Rattle.bs_times.specs.Times.{Comes, Runs, IsOn, IsLine, IsConsistent, IsListed, end_of, arrival, ready}
 use Rattle.bs_times.specs.Bounds.{IsShort, Fits, FitAt}
@@ -101,3 +101,9 @@ module _ (net : Net) (c : Causal net) (short : IsShort net) (s : Starts) (table 
   ends_early i has =
       let before = early 262144 i has (omega (arith, (short.depth i has).1)) in
       omega (arith, before, late_end net (net.home i) (arrival net s) s short (table (net.home i)) i (has, refl))
+
+  pub arrivals_early : (m : MailRef) → IsListed net m → arrival net s m < 2 ^ 107
+  arrivals_early m listed =
+      let has = (c.mail listed.0 m listed.1 listed.2).0 in
+      let before = early 262144 m.row has (omega (arith, (short.depth m.row has).1)) in
+      omega (arith, before, short.travel m listed, late_end net (net.home m.row) (arrival net s) s short (table (net.home m.row)) m.row (has, refl))

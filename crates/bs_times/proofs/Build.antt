@@ -1,7 +1,7 @@
 -- A table can be computed: of the rows whose causes have started, the one of least (ready tick, number) starts next.
 use Rattle.std.proofs.Common.{subst, ◌≡◌, ◌==◌, ℕ, zero, suc, ◌+◌, ◌<◌, ◌≤◌, max, cond, List, [], ◌∷◌, ◌++◌, ◌⊎◌, ◌↔◌, inl, inr, refl, sym, ap, ◌∙◌, arith}
 use Rattle.std.proofs.lemmas.Bool.{cases_eq, eq-eqb, ne_eqb, cond-true, cond-false}
-use Rattle.bs_log.specs.ClosedTest.{Mem}
+use Rattle.bs_log.specs.Lists.{Mem}
 use Rattle.bs_times.specs.Net.{Net, Starts, HasRow}
 use Rattle.bs_times.specs.Times.{Comes, First, Runs, IsOn, end_of}
 use Rattle.bs_times.proofs.Order.{comes_same}

@@ -3,8 +3,8 @@ use Rattle.std.proofs.Common.{◌≡◌, ◌≤◌, ◌<◌, ℕ, ap, arith}
 use Rattle.bs_log.specs.declared.history.Sent.{Sent}
 use Rattle.bs_log.specs.declared.log.MailRef.{MailRef}
 use Rattle.bs_log.specs.declared.log.Log.{Log}
-use Rattle.bs_log.specs.ClosedTest.{Mem}
 use Rattle.bs_log.specs.Valid.{IsValid}
+use Rattle.bs_log.specs.Lists.{Mem}
 use Rattle.bs_machine.specs.declared.fitted.Fitted.{Fitted}
 use Rattle.bs_machine.proofs.Bounds.{has_bounds}
 use Rattle.bs_semantics.specs.Serial.{Machine}

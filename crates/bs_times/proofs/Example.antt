@@ -1,6 +1,6 @@
 -- The waves of the worked example.
 use Rattle.std.proofs.Common.{◌≡◌, ℕ, zero, suc, ◌<◌, ◌≤◌, [], ◌∷◌, inl, inr, refl, arith}
-use Rattle.bs_log.specs.ClosedTest.{Mem}
+use Rattle.bs_log.specs.Lists.{Mem}
 use Rattle.bs_times.specs.Net.{HasRow}
 use Rattle.bs_times.specs.Times.{IsOn, IsTable, IsConsistent}
 use Rattle.bs_times.specs.Example.{net, starts, ticks}

@@ -1,6 +1,6 @@
 -- There is a table for each line, and a consistent one for all.
 use Rattle.std.proofs.Common.{ℕ, ◌+◌, ◌<◌, List, ◌++◌, ◌⊎◌, inl, inr, map, refl, ap, arith}
-use Rattle.bs_log.specs.ClosedTest.{Mem}
+use Rattle.bs_log.specs.Lists.{Mem}
 use Rattle.bs_times.specs.Net.{Net, Starts, Ticks, HasRow, Causal}
 use Rattle.bs_times.specs.Times.{IsTable, IsConsistent, arrival, ready}
 use Rattle.bs_times.proofs.Ready.{after_ready, mail_ready}

@@ -24,3 +24,5 @@ pub mod ValidExample
 pub mod SomeRacing
 pub mod Settles
 pub mod SomeRun
+pub mod First
+pub mod Stays

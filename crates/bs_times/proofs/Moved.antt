@@ -1,7 +1,7 @@
 -- A line's table stays one where its rows' starts and its messages' ticks are the same.
 use Rattle.std.proofs.Common.{◌≡◌, ℕ, ◌+◌, max, List, [], ◌∷◌, inl, inr, map, refl, sym, ap, ◌∙◌}
 use Rattle.bs_log.specs.declared.log.MailRef.{MailRef}
-use Rattle.bs_log.specs.ClosedTest.{Mem}
+use Rattle.bs_log.specs.Lists.{Mem}
 use Rattle.bs_times.specs.Net.{Net, Starts, Ticks, Causal}
 use Rattle.bs_times.specs.Times.{First, Runs, IsOn, IsLine, IsTable, IsListed, end_of, ready}
 use Rattle.bs_times.proofs.Order.{comes_same}

@@ -1,6 +1,6 @@
 -- What the order of a line says of its starts, without the order.
 use Rattle.std.proofs.Common.{◌≡◌, ℕ, ◌+◌, ◌≤◌, max, List, [], ◌∷◌, ◌⊎◌, inl, inr, refl, sym, ap, ◌∙◌, arith}
-use Rattle.bs_log.specs.ClosedTest.{Mem}
+use Rattle.bs_log.specs.Lists.{Mem}
 use Rattle.bs_times.specs.Net.{Net, Starts, Ticks}
 use Rattle.bs_times.specs.Times.{Comes, First, Runs, IsOn, IsLine, end_of, ready}
 

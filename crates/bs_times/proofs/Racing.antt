@@ -2,7 +2,7 @@
 use Rattle.std.proofs.Common.{subst, ◌≡◌, ◌==◌, ℕ, true, false, [], ◌∷◌, ◌⊎◌, inl, inr, Some, None, refl, sym, ap, ◌∙◌}
 use Rattle.std.proofs.lemmas.Bool.{cases_eq, eqb-true, eq-eqb, ne_eqb, cond-true, cond-false, and_parts, cases_Bool}
 use Rattle.bs_log.specs.declared.log.MailRef.{MailRef}
-use Rattle.bs_log.specs.ClosedTest.{Mem}
+use Rattle.bs_log.specs.Lists.{Mem}
 use Rattle.bs_times.specs.Net.{Net, Starts, Ticks, Causal}
 use Rattle.bs_times.specs.Times.{HasLine, IsLine, IsListed, arrival}
 use Rattle.bs_times.specs.Racing.{World, IsDirty, IsUpToDate, IsEven, Race, Races, begins, recomputes, sets, IsRacingWave, correction, recomputed, same_mail, set_at, first_world, Raced}

@@ -1,7 +1,7 @@
 -- A ready tick is the greatest of what the causes give.
 use Rattle.std.proofs.Common.{◌≡◌, ℕ, ◌+◌, ◌≤◌, max, List, [], ◌∷◌, ◌⊎◌, inl, inr, map, refl, ◌∙◌, arith}
 use Rattle.bs_log.specs.declared.log.MailRef.{MailRef}
-use Rattle.bs_log.specs.ClosedTest.{Mem}
+use Rattle.bs_log.specs.Lists.{Mem}
 use Rattle.bs_times.specs.Net.{Net, Starts, Ticks}
 use Rattle.bs_times.specs.Times.{greatest, end_of, ready}
 

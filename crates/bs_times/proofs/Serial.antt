@@ -1,7 +1,7 @@
 -- A run of the least starts gives the consistent table.
 use Rattle.std.proofs.Common.{subst, ◌≡◌, ◌==◌, ℕ, ◌<◌, ◌≤◌, max, cond, List, [], ◌∷◌, ◌++◌, ◌⊎◌, ◌↔◌, inl, inr, map, refl, sym, ap, ◌∙◌, arith}
 use Rattle.std.proofs.lemmas.Bool.{cases_eq, eq-eqb, ne_eqb, cond-true, cond-false}
-use Rattle.bs_log.specs.ClosedTest.{Mem}
+use Rattle.bs_log.specs.Lists.{Mem}
 use Rattle.bs_times.specs.Net.{Net, Starts, HasRow, Causal}
 use Rattle.bs_times.specs.Times.{Comes, Runs, IsConsistent, end_of, arrival, ready}
 use Rattle.bs_times.specs.Serial.{free, AreStarted, IsEnabled, due, would_start, IsPick, IsRun}

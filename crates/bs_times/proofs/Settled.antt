@@ -1,6 +1,6 @@
 -- A wave that changes nothing gives the consistent table.
 use Rattle.std.proofs.Common.{◌≡◌, ℕ, max, List, [], ◌∷◌, inl, inr, map, refl, sym, ap, ◌∙◌}
-use Rattle.bs_log.specs.ClosedTest.{Mem}
+use Rattle.bs_log.specs.Lists.{Mem}
 use Rattle.bs_times.specs.Net.{Net, Starts, Ticks, HasRow, Causal}
 use Rattle.bs_times.specs.Times.{First, Runs, IsLine, IsTable, IsConsistent, IsWave, SameTicks, greatest, end_of, arrival, ready}
 use Rattle.bs_times.proofs.Order.{comes_same}

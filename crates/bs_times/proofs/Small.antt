@@ -12,12 +12,12 @@ use Rattle.bs_log.specs.Valid.{row_lines, IsValid}
 use Rattle.bs_semantics.specs.Serial.{Machine}
 use Rattle.bs_times.specs.Machine.{IsTimely}
 use Rattle.bs_times.specs.Net.{Starts, HasRow, no_row, no_send, row_of, sent_of, net_of}
-use Rattle.bs_times.specs.Times.{IsConsistent, IsListed}
+use Rattle.bs_times.specs.Times.{IsConsistent, IsListed, arrival}
 use Rattle.bs_times.specs.Outcomes.{out_row, out_rows, outcome_of}
 use Rattle.bs_times.specs.Bounds.{IsShort, IsSmall}
 use Rattle.bs_times.proofs.Found.{numbered_is, found, row_fits, send_fits, mail_cause}
 use Rattle.bs_times.proofs.Causal.{causal_net}
-use Rattle.bs_times.proofs.Bounds.{ends_early}
+use Rattle.bs_times.proofs.Bounds.{arrivals_early, ends_early}
 
 a_line_each : (rs : List Row) → length rs ≤ sum_by row_lines rs
 a_line_each [] = omega arith
@@ -58,6 +58,9 @@ module _ (log : Log) (machine : Machine) (v : IsValid log) (t : IsTimely machine
 
   pub small_ends : (s : Starts) → IsConsistent (net_of log machine) s → (i : ℕ) → HasRow (net_of log machine) i → s i + machine.duration (row_of log i).cost < 2 ^ 109
   small_ends = ends_early (net_of log machine) (causal_net log machine v t) short_net
+
+  pub small_arrivals : (s : Starts) → IsConsistent (net_of log machine) s → (m : MailRef) → IsListed (net_of log machine) m → arrival (net_of log machine) s m < 2 ^ 107
+  small_arrivals = arrivals_early (net_of log machine) (causal_net log machine v t) short_net
 
   small_row : (s : Starts) → IsConsistent (net_of log machine) s → (i : ℕ) → HasRow (net_of log machine) i → IsSmall (out_row machine s i (row_of log i))
   small_row s table i has =

@@ -1,7 +1,7 @@
 -- The consistent table comes of starting rows one at a time.
 use Rattle.std.proofs.Common.{◌≡◌, ◌≤◌, ◌<◌, ◌+◌, ◌⊎◌, inl, inr, ℕ, zero, suc, max, List, [], ◌∷◌, refl, sym, ap, subst, ◌∙◌, arith}
 use Rattle.std.proofs.lemmas.Bool.{cases_eq, eq-eqb, ne_eqb, cond-true, cond-false}
-use Rattle.bs_log.specs.ClosedTest.{Mem}
+use Rattle.bs_log.specs.Lists.{Mem}
 use Rattle.bs_times.specs.Net.{Net, Starts, HasRow, Causal}
 use Rattle.bs_times.specs.Times.{Comes, IsOn, IsConsistent, end_of, arrival, ready}
 use Rattle.bs_times.specs.Serial.{free, IsEnabled, due, would_start, IsPick, IsRun}

@@ -1,7 +1,7 @@
 -- Tables that agree on early ready ticks agree on early starts; so there is one table.
 use Rattle.std.proofs.Common.{◌≡◌, ℕ, zero, suc, ◌+◌, ◌<◌, ◌≤◌, ◌⊎◌, inl, inr, refl, sym, arith}
 use Rattle.bs_log.specs.declared.log.MailRef.{MailRef}
-use Rattle.bs_log.specs.ClosedTest.{Mem}
+use Rattle.bs_log.specs.Lists.{Mem}
 use Rattle.bs_times.specs.Net.{Net, Starts, Ticks, HasRow, Causal}
 use Rattle.bs_times.specs.Times.{Comes, IsOn, IsTable, IsConsistent, arrival, ready}
 use Rattle.bs_times.proofs.Order.{Packed, packed, comes_ready, comes_same}

@@ -1,6 +1,7 @@
 pub mod Machine
 pub mod Net
 pub mod Times
+pub mod Budget
 pub mod Racing
 pub mod Outcomes
 pub mod Serial

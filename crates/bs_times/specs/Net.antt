@@ -5,8 +5,8 @@ use Rattle.bs_log.specs.declared.history.Sent.{Sent}
 use Rattle.bs_log.specs.declared.log.MailRef.{MailRef}
 use Rattle.bs_log.specs.declared.log.Row.{Row}
 use Rattle.bs_log.specs.declared.log.Log.{Log}
-use Rattle.bs_log.specs.ClosedTest.{Mem}
 use Rattle.bs_log.specs.Valid.{numbered}
+use Rattle.bs_log.specs.Lists.{Mem}
 use Rattle.bs_semantics.specs.Serial.{Machine}
 
 -- a tick for each row, and a tick for each message

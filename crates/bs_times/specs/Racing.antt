@@ -1,7 +1,7 @@
 -- Worlds of corrections, and waves whose lines are recomputed at different times (docs/model.md).
 use Rattle.std.specs.Prelude.{◌≡◌, ◌≢◌, ◌⊎◌, ◌==◌, ◌&&◌, ℕ, suc, Bool, true, false, if◌then◌else◌, List, [], ◌∷◌, Option, Some, None}
 use Rattle.bs_log.specs.declared.log.MailRef.{MailRef}
-use Rattle.bs_log.specs.ClosedTest.{Mem}
+use Rattle.bs_log.specs.Lists.{Mem}
 use Rattle.bs_times.specs.Net.{Net, Starts, Ticks}
 use Rattle.bs_times.specs.Times.{HasLine, IsLine, IsListed, IsWave, SameTicks, arrival}
 

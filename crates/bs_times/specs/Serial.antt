@@ -1,7 +1,7 @@
 -- Starting the rows of a log one at a time, the least start first (docs/model.md).
 use Rattle.std.specs.Prelude.{◌≡◌, ◌≤◌, ◌==◌, ◌⊎◌, ℕ, max, if◌then◌else◌, List, [], ◌∷◌}
 use Rattle.bs_log.specs.declared.log.MailRef.{MailRef}
-use Rattle.bs_log.specs.ClosedTest.{Mem}
+use Rattle.bs_log.specs.Lists.{Mem}
 use Rattle.bs_times.specs.Net.{Net, Starts, HasRow}
 use Rattle.bs_times.specs.Times.{Comes, end_of, arrival, ready}
 

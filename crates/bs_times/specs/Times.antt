@@ -1,7 +1,7 @@
 -- Ends, arrivals, ready ticks, the table of one processor and of all, and waves (docs/model.md).
 use Rattle.std.specs.Prelude.{◌≡◌, ◌<◌, ◌+◌, ◌⊎◌, ◌↔◌, ◌*◌, ℕ, zero, suc, max, List, [], ◌∷◌, map}
 use Rattle.bs_log.specs.declared.log.MailRef.{MailRef}
-use Rattle.bs_log.specs.ClosedTest.{Mem}
+use Rattle.bs_log.specs.Lists.{Mem}
 use Rattle.bs_times.specs.Net.{Net, Starts, Ticks, HasRow}
 
 -- the greatest of a list, and 0 for none

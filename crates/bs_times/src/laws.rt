@@ -50,6 +50,18 @@ pub fn uniqueness()
     ensures one_of { (net : Net) → Causal net → (s z : Starts) → IsConsistent net s → IsConsistent net z → (i : ℕ) → HasRow net i → s i ≡ z i }
 {}
 
+ghost use Rattle.bs_log.specs.Lists.{Mem};
+ghost use Rattle.bs_log.specs.declared.log.MailRef.{MailRef};
+ghost use Rattle.bs_times.specs.Times.{arrival, end_of};
+
+/// **Causes first.** In the consistent table a block cause ends before or when its row starts (`blocks`),
+/// and a message cause arrives before or when its row starts (`messages`). So each cause starts at least
+/// one tick before what it causes.
+pub fn causes_first()
+    ensures blocks { (net : Net) → Causal net → (s : Starts) → IsConsistent net s → (i x : ℕ) → HasRow net i → Mem x (net.after i) → (end_of net s x ≤ s i) × (s x < s i) }
+    ensures messages { (net : Net) → Causal net → (s : Starts) → IsConsistent net s → (i : ℕ) (m : MailRef) → HasRow net i → Mem m (net.mail i) → (arrival net s m ≤ s i) × (s m.row < s i) }
+{}
+
 ghost use Rattle.bs_times.specs.Serial.{IsRun, IsEnabled};
 
 /// **One at a time.** Rows are started one at a time: of each processor's rows whose causes were
@@ -66,7 +78,7 @@ pub fn some_run()
 {}
 
 ghost use Rattle.std.specs.Prelude.{suc};
-ghost use Rattle.bs_times.specs.Times.{AreWaves, IsWave, SameTicks, arrival, budget};
+ghost use Rattle.bs_times.specs.Times.{AreWaves, IsWave, SameTicks, budget};
 
 /// **Waves.** From any estimates there are waves (`some`), and they give one tick for each message
 /// (`one`). No tick changes after so many waves as the budget says (`rest`), and the ticks are then the
@@ -91,6 +103,11 @@ pub fn settles()
 /// The table of a wave that changes no tick is the consistent one.
 pub fn settled_is_consistent()
     ensures { (net : Net) (held given : Ticks) → Causal net → (wave : IsWave net held given) → SameTicks net given held → IsConsistent net wave.table }
+{}
+
+/// Waves from the arrivals of the consistent table change no tick.
+pub fn arrivals_stay()
+    ensures { (net : Net) → Causal net → (s : Starts) → IsConsistent net s → (ticks : ℕ → Ticks) → AreWaves net ticks → SameTicks net (ticks 0) (arrival net s) → (k : ℕ) → SameTicks net (ticks k) (arrival net s) }
 {}
 
 ghost use Rattle.bs_times.specs.Racing.{
@@ -135,8 +152,7 @@ pub fn clean_is_consistent()
 {}
 
 ghost use Rattle.std.specs.Prelude.{◌*◌, ◌^◌, Some, length};
-ghost use Rattle.bs_log.specs.declared.log.MailRef.{MailRef};
-ghost use Rattle.bs_times.specs.Times.{IsListed, end_of};
+ghost use Rattle.bs_times.specs.Times.{IsListed};
 ghost use Rattle.bs_times.specs.Racing.{Race, Races};
 ghost use Rattle.bs_times.specs.Bounds.{IsShort, Fits, AllFit, FitAt};
 
@@ -180,10 +196,12 @@ ghost use Rattle.bs_times.specs.Outcomes.{outcome_of};
 ghost use Rattle.bs_times.specs.Bounds.{IsSmall};
 
 /// On every machine the consistent table of a valid log is small: each row ends before tick 2^109
-/// (`ends`), so that its outcome can be told. It has at most 262,144 blocks, each of which takes from 1
-/// to 2^48 ticks and ends before tick 2^110 (`outcome`).
+/// (`ends`), so that its outcome can be told, and each message arrives before tick 2^107 (`arrivals`), so
+/// that waves may begin from there. The outcome has at most 262,144 blocks, each of which takes from 1 to
+/// 2^48 ticks and ends before tick 2^110 (`outcome`).
 pub fn times_are_small()
     ensures ends { (log : Log) (machine : Machine) → IsValid log → IsTimely machine → (s : Starts) → IsConsistent (net_of log machine) s → (i : ℕ) → HasRow (net_of log machine) i → end_of (net_of log machine) s i < 2 ^ 109 }
+    ensures arrivals { (log : Log) (machine : Machine) → IsValid log → IsTimely machine → (s : Starts) → IsConsistent (net_of log machine) s → (m : MailRef) → IsListed (net_of log machine) m → arrival (net_of log machine) s m < 2 ^ 107 }
     ensures outcome { (log : Log) (machine : Machine) → IsValid log → IsTimely machine → (s : Starts) → IsConsistent (net_of log machine) s → (length (outcome_of log machine s).rows ≤ 262144) × All IsSmall (outcome_of log machine s).rows }
 {}
 

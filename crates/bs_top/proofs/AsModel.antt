@@ -14,21 +14,28 @@ use Rattle.bs_times.specs.Times.{IsConsistent}
 use Rattle.bs_times.specs.Outcomes.{outcome_of}
 use Rattle.bs_tree.specs.declared.tree.Program.{Program}
 use Rattle.bs_machine.specs.Machine.{MachineOf}
-use Rattle.bs_top.specs.Answer.{Answer, IsAnswer, accepted, fits, judged, logged, machine_named, ran, reply_to, serial_run, simulated, within}
-use Rattle.bs_top.specs.Computing.{IsForetold}
+use Rattle.bs_top.specs.Answer.{Answer, IsAnswer, reply_to}
+use Rattle.bs_top.specs.Inputs.{accepted, fits, machine_named}
+use Rattle.bs_top.specs.Verdicts.{judged, logged}
+use Rattle.bs_top.specs.commands.Run.{ran}
+use Rattle.bs_top.specs.Reports.{serial_run}
+use Rattle.bs_top.specs.commands.Model.{simulated}
+use Rattle.bs_top.specs.Waves.{within}
+use Rattle.bs_top.specs.Computing.{IsOutcomeOf}
 use Rattle.bs_top.specs.Step.{Said, Step, and_then}
-use Rattle.bs_top.specs.Words.{MachineWord, model, run}
-use Rattle.bs_top.specs.declared.stop.Stop.{Stop}
+use Rattle.bs_words.specs.Machine.{MachineWord}
+use Rattle.bs_top.specs.Words.{model, run}
+use Rattle.bs_top.specs.declared.stopped.Stopped.{Stopped}
 use Rattle.bs_top.proofs.Simulating.{histories_of, judged_by_log, log_by_judged, no_log, not_judged}
 
-abbrev pub nothing : Result (Unit {0}) Stop
+abbrev pub nothing : Result (Unit {0}) Stopped
 nothing = Ok tt
 
-abbrev pub stopped_at : Stop → Result (Unit {0}) Stop
+abbrev pub stopped_at : Stopped → Result (Unit {0}) Stopped
 stopped_at stop = Err stop
 
 -- one step after the other, where the other gives what a third gives
-after : {A B : Type 0} (first : Step A) (next other : A → Step B) → ((a : A) (r : Result B Stop) → next a r → other a r) → (r : Result B Stop) → and_then first next r → and_then first other r
+after : {A B : Type 0} (first : Step A) (next other : A → Step B) → ((a : A) (r : Result B Stopped) → next a r → other a r) → (r : Result B Stopped) → and_then first next r → and_then first other r
 after first next other f (Ok b) h = (h.0, h.1, f h.0 (Ok b) h.2)
 after first next other f (Err stop) (inl h) = inl h
 after first next other f (Err stop) (inr h) = inr (h.0, h.1, f h.0 (Err stop) h.2)
@@ -40,37 +47,37 @@ module _ (p : Program) (m : MachineOf) (limit : ℕ) where
   abbrev by_model : Step Said
   by_model = and_then (judged p limit) (λ _. serial_run p m limit)
 
-  ends_as_model : (r : Result Said Stop) → by_log r → by_model r
+  ends_as_model : (r : Result Said Stopped) → by_log r → by_model r
   unfolding within
   ends_as_model (Ok said) h = (tt, judged_by_log p limit h.0 h.1, h.2.2)
   ends_as_model (Err stop) (inl h) = inl (not_judged p limit stop h)
   ends_as_model (Err stop) (inr (kept, is, inl e)) = absurd (no_stop stop e)
     where
-      no_stop : (stop : Stop) → nothing ≡ stopped_at stop → ⊥
+      no_stop : (stop : Stopped) → nothing ≡ stopped_at stop → ⊥
       no_stop stop e = cc
   ends_as_model (Err stop) (inr (kept, is, inr h)) = absurd h.2
 
-  ends_as_run : (r : Result Said Stop) → by_model r → by_log r
+  ends_as_run : (r : Result Said Stopped) → by_model r → by_log r
   unfolding within
   ends_as_run (Ok said) h = let is = log_by_judged p limit h.1 in (is.0, is.1, (tt, refl, h.2))
   ends_as_run (Err stop) (inl h) = inl (no_log p limit stop h)
   ends_as_run (Err stop) (inr h) = absurd h.2
 
-  run_as_model : (r : Result Said Stop) → ran None p m limit r → simulated p m limit r
+  run_as_model : (r : Result Said Stopped) → ran None p m limit r → simulated p m limit r
   unfolding ran simulated
   run_as_model r h = after (fits p.chares m) (λ _. by_log) (λ _. by_model) (λ _ r. ends_as_model r) r h
 
-  model_as_run : (r : Result Said Stop) → simulated p m limit r → ran None p m limit r
+  model_as_run : (r : Result Said Stopped) → simulated p m limit r → ran None p m limit r
   unfolding ran simulated
   model_as_run r h = after (fits p.chares m) (λ _. by_model) (λ _. by_log) (λ _ r. ends_as_run r) r h
 
 module _ (files : Files) (name : List ℕ) (word : MachineWord) (limit : ℕ) where
-  replies_as_model : (r : Result Said Stop) → reply_to files (Some (run name word limit None)) r → reply_to files (Some (model name word limit)) r
+  replies_as_model : (r : Result Said Stopped) → reply_to files (Some (run name word limit None)) r → reply_to files (Some (model name word limit)) r
   unfolding reply_to
   replies_as_model r h = after (accepted files name) (λ p. and_then (machine_named files word) (λ m. ran None p m limit)) (λ p. and_then (machine_named files word) (λ m. simulated p m limit))
       (λ p. after (machine_named files word) (λ m. ran None p m limit) (λ m. simulated p m limit) (λ m. run_as_model p m limit)) r h
 
-  replies_as_run : (r : Result Said Stop) → reply_to files (Some (model name word limit)) r → reply_to files (Some (run name word limit None)) r
+  replies_as_run : (r : Result Said Stopped) → reply_to files (Some (model name word limit)) r → reply_to files (Some (run name word limit None)) r
   unfolding reply_to
   replies_as_run r h = after (accepted files name) (λ p. and_then (machine_named files word) (λ m. simulated p m limit)) (λ p. and_then (machine_named files word) (λ m. ran None p m limit))
       (λ p. after (machine_named files word) (λ m. simulated p m limit) (λ m. ran None p m limit) (λ m. model_as_run p m limit)) r h
@@ -100,7 +107,7 @@ module _ (p : Program) (limit : ℕ) where
   -- what a log says at its consistent table is what the serial machine model gives
   pub is_serial : (m : Machine) (log : Log)
       → ((hs : List History) (s : Starts) → rounds.IsVerdict p limit (rounds.clean hs) → IsConsistent (net_of (log_of hs (length p.entries)) m) s → IsSerial p limit m (timed (outcome_of (log_of hs (length p.entries)) m s)))
-      → logged p limit (Ok log) → (o : Outcome) → IsForetold log m o → IsSerial p limit m (timed o)
+      → logged p limit (Ok log) → (o : Outcome) → IsOutcomeOf log m o → IsSerial p limit m (timed o)
   is_serial m log told h o f =
       let is = histories_of p limit log h in
       let table = subst (λ (l : Log). IsConsistent (net_of l m) f.0) is.2 f.1 in

@@ -3,11 +3,11 @@ use Rattle.std.proofs.Common.{◌≤◌, ℕ, inl, inr, arith, Result, Ok, Err}
 use Rattle.bs_desk.specs.Outside.{Outside}
 use Rattle.bs_report.specs.declared.faults.Fault.{Fault}
 use Rattle.bs_report.specs.declared.faults.Fault.TheVariants as fault
-use Rattle.bs_top.specs.Answer.{file_limit}
+use Rattle.bs_top.specs.Inputs.{file_limit}
 use Rattle.bs_top.specs.Causes.{FaultCause, HasRead, IsBound, StepCause}
 use Rattle.bs_top.specs.Computing.{Computes, IsComputed}
-use Rattle.bs_top.specs.declared.stop.Stop.{Stop}
-use Rattle.bs_top.specs.declared.stop.Stop.TheVariants.{Refused, NoFile, ReadFault, Memory}
+use Rattle.bs_top.specs.declared.stopped.Stopped.{Stopped}
+use Rattle.bs_top.specs.declared.stopped.Stopped.TheVariants.{Refused, NoFile, ReadFault, Memory}
 
 module _ (most : ℕ) (new : Outside) where
   -- a step that computes reads nothing
@@ -44,7 +44,7 @@ module _ (most : ℕ) (new : Outside) where
     fault_wider (fault.TooBig limit) h = (h.0, h.1, bound limit h.2)
 
 module _ (most : ℕ) (old new : Outside) where
-  pub computed : {A : Type 0} (r : Result A Stop) → Computes r → HasRead most new → StepCause most old new r
+  pub computed : {A : Type 0} (r : Result A Stopped) → Computes r → HasRead most new → StepCause most old new r
   computed (Ok a) c h = h
   computed (Err (Refused f)) c h = fault_computed most new f c h
   computed (Err NoFile) c h = absurd c
@@ -52,7 +52,7 @@ module _ (most : ℕ) (old new : Outside) where
   computed (Err Memory) c h = tt
 
   -- a refusal to read a file of fewer bytes is passed on
-  pub stopped : (A B : Type 0) → file_limit ≤ most → (stop : Stop) → StepCause {A = A} file_limit old new (Err stop) → StepCause {A = B} most old new (Err stop)
+  pub stopped : (A B : Type 0) → file_limit ≤ most → (stop : Stopped) → StepCause {A = A} file_limit old new (Err stop) → StepCause {A = B} most old new (Err stop)
   stopped A B wide (Refused f) h = fault_wider most new wide f h
   stopped A B wide NoFile h = h
   stopped A B wide ReadFault h = h

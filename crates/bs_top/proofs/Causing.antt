@@ -6,22 +6,22 @@ use Rattle.bs_desk.specs.declared.desk.DeskFault.TheVariants as desk
 use Rattle.bs_desk.specs.Outside.{Outside, IsReading, Rose}
 use Rattle.bs_log.specs.declared.outcome.End.TheVariants as end
 use Rattle.bs_top.specs.declared.status.Status.{Status}
-use Rattle.bs_top.specs.declared.stop.Ending.{Ending}
-use Rattle.bs_top.specs.declared.stop.Ending.TheVariants as ending
+use Rattle.bs_top.specs.declared.reply.Ending.{Ending}
+use Rattle.bs_top.specs.declared.reply.Ending.TheVariants as ending
 use Rattle.bs_top.specs.Answer.{status_of}
 use Rattle.bs_top.specs.Causes.{HasRead, most_of}
 use Rattle.bs_top.specs.Performs.{Cause, ReadsWhole, Tells, written_status}
-use Rattle.bs_top.specs.Place.{Note, Place, output, errors, in_file, noted, put}
+use Rattle.bs_top.specs.Targets.{Note, TargetOf, output, errors, in_file, noted, put}
 use Rattle.bs_top.specs.Words.{Asked}
 
 -- what was read stays where a text is put
-still : (place : Place) (text : List ℕ) (o : Outside) → ((put place text o).found ≡ o.found) × ((put place text o).taken ≡ o.taken)
+still : (place : TargetOf) (text : List ℕ) (o : Outside) → ((put place text o).found ≡ o.found) × ((put place text o).taken ≡ o.taken)
 still output text o = (refl, refl)
 still errors text o = (refl, refl)
 still (in_file name) text o = (refl, refl)
 
 -- and where a note is put before it
-still_noted : (note : Option Note) (place : Place) (text : List ℕ) (o : Outside) → ((put place text (noted note o)).found ≡ o.found) × ((put place text (noted note o)).taken ≡ o.taken)
+still_noted : (note : Option Note) (place : TargetOf) (text : List ℕ) (o : Outside) → ((put place text (noted note o)).found ≡ o.found) × ((put place text (noted note o)).taken ≡ o.taken)
 still_noted None place text o = still place text o
 still_noted (Some note) place text o = let two = still place text (put (in_file note.name) note.text o) in let one = still (in_file note.name) note.text o in (two.0 ∙ one.0, two.1 ∙ one.1)
 
@@ -32,7 +32,7 @@ module _ (asked : Option Asked) (old new : Outside) where
   by_ending w (ending.Run end.Trapped) = w
   by_ending w ending.Spent = w
 
-  module _ (mid : Outside) (some : IsSome asked) (read : HasRead (most_of asked) mid) (r : IsReading old mid) (e : Ending) (note : Option Note) (place : Place) (text : List ℕ) where
+  module _ (mid : Outside) (some : IsSome asked) (read : HasRead (most_of asked) mid) (r : IsReading old mid) (e : Ending) (note : Option Note) (place : TargetOf) (text : List ℕ) where
     by_written : (written : Result (Unit {0}) DeskFault) → Tells note place text mid new written → Cause asked old new (written_status (status_of e) written)
     by_written (Ok _) same =
         let kept = still_noted note place text mid in
@@ -42,8 +42,8 @@ module _ (asked : Option Asked) (old new : Outside) where
           taken = subst (λ n. n ≤ most_of asked) (sym (ap (λ (o : Outside). o.taken) same ∙ kept.1)) read.1;
         }) e
     by_written (Err desk.Failed) h = record {
-      can_fail = subst IsTrue (ap (λ (o : Outside). o.can_fail) r) h.0.0;
-      rose = subst (λ n. Rose n new.write_faults) (ap (λ (o : Outside). o.write_faults) r) h.0.1;
+      can_fail = subst IsTrue (ap (λ (o : Outside). o.can_fail) r) (h.0.1 refl).0;
+      rose = subst (λ n. Rose n new.write_faults) (ap (λ (o : Outside). o.write_faults) r) (h.0.1 refl).1;
     }
     by_written (Err desk.Memory) h = tt
 

@@ -7,22 +7,33 @@ use Rattle.bs_log.specs.declared.log.Log.{Log}
 use Rattle.bs_logtext.specs.Text.{log_text}
 use Rattle.bs_machine.specs.Machine.{MachineOf}
 use Rattle.bs_net.specs.Home.{has_length}
-use Rattle.bs_parse.specs.TextLaws.{OneProgram, OneFault, NotBoth}
 use Rattle.bs_semantics.specs.Verdict.{IsVerdict, clean}
 use Rattle.bs_tree.specs.declared.tree.Program.{Program}
 use Rattle.bs_top.specs.declared.status.Status.{Status}
 use Rattle.bs_top.specs.declared.status.Status.TheVariants as status
-use Rattle.bs_top.specs.declared.stop.Stop.{Stop}
+use Rattle.bs_top.specs.declared.stopped.Stopped.{Stopped}
 use Rattle.bs_settle.specs.declared.settling.BudgetSpent.{BudgetSpent}
 use Rattle.bs_times.specs.Times.{budget}
-use Rattle.bs_top.specs.Answer as step
-use Rattle.bs_top.specs.Answer.{Answer, IsAnswer, IsTooFew, accepted, answer_of, budget_of, contents, file_limit, fits, journaled, journaled_on, judged, kept_in, log_in, log_limit, log_named, logged, machine_named, or_bad_machine, predicted, printed, program_in, ran, reply_to, serial_run, simulated, timed_on, trace_on, traced, within}
+use Rattle.bs_top.specs.commands.Predict.{predicted_with as asked_of_log, predicted}
+use Rattle.bs_top.specs.Answer.{Answer, IsAnswer, answer_of, reply_to}
+use Rattle.bs_top.specs.Waves.{IsTooFew, budget_of, within}
+use Rattle.bs_top.specs.Inputs.{accepted, contents, file_limit, fits, log_in, log_limit, log_named, machine_named, or_bad_machine, program_in}
+use Rattle.bs_top.specs.commands.Journal.{journaled, journaled_on}
+use Rattle.bs_top.specs.Verdicts.{judged, logged}
+use Rattle.bs_top.specs.commands.Emulate.{kept_in}
+use Rattle.bs_top.specs.commands.Check.{printed}
+use Rattle.bs_top.specs.commands.Run.{ran}
+use Rattle.bs_top.specs.Reports.{serial_run, timed_on}
+use Rattle.bs_top.specs.commands.Model.{simulated}
+use Rattle.bs_top.specs.commands.Trace.{trace_on, traced}
 use Rattle.bs_top.specs.Complete.{CanEmulate, CanPredict, CanRun, Ends, HasFile, HasLog, HasMachine, HasProgram, IsAmple, IsAmpleFor, IsJournaled, IsPredicted, IsReported, IsTraced, logged_in}
 use Rattle.bs_top.specs.Performs.{Answers, WritesAnswer}
 use Rattle.bs_top.specs.Step.{Said, Step, and_then}
-use Rattle.bs_top.specs.Words.{Asked, MachineWord, check, model, emulate, run, predict, trace, flat, file}
-use Rattle.bs_top.proofs.OneAnswer.{OneSerial, OneVerdict, one_accepted, one_contents, one_fit, one_judged, one_logged, one_named, one_reply}
-use Rattle.bs_top.proofs.OneLog.{LogLaws, one_log}
+use Rattle.bs_top.specs.Words.{Asked, check, model, emulate, run, predict, trace}
+use Rattle.bs_words.specs.Machine.{MachineWord, flat, file}
+use Rattle.bs_top.specs.Known.{Known}
+use Rattle.bs_top.proofs.OneAnswer.{one_accepted, one_contents, one_fit, one_judged, one_logged, one_named, one_reply}
+use Rattle.bs_top.proofs.OneLog.{one_log}
 use Rattle.bs_top.proofs.OneStep.{past}
 use Rattle.bs_top.proofs.Reading.{read_whole}
 use Rattle.bs_top.proofs.AsModel.{nothing, stopped_at}
@@ -34,10 +45,10 @@ not_spent kept m most spent ample h =
     let few = subst (λ net. most < budget net) h.1.is_net h.2.few in
     omega (arith, few, ample)
 
-no_stop : {A : Type 0} (stop : Stop) → nothing ≡ stopped_at stop → A
+no_stop : {A : Type 0} (stop : Stopped) → nothing ≡ stopped_at stop → A
 no_stop stop e = absurd (cc)
 
-past_waves : (next : Step Said) (waves : Option ℕ) (kept : Log) (m : MachineOf) → IsAmple waves kept → (r : Result Said Stop) → and_then (within waves kept m) (λ _. next) r → next r
+past_waves : (next : Step Said) (waves : Option ℕ) (kept : Log) (m : MachineOf) → IsAmple waves kept → (r : Result Said Stopped) → and_then (within waves kept m) (λ _. next) r → next r
 unfolding within
 past_waves next None kept m ample (Ok said) h = h.2
 past_waves next None kept m ample (Err stop) (inl e) = no_stop stop e
@@ -46,13 +57,13 @@ past_waves next (Some most) kept m ample (Ok said) h = h.2
 past_waves next (Some most) kept m ample (Err stop) (inl h) = absurd (not_spent kept m most h.0 ample h.1)
 past_waves next (Some most) kept m ample (Err stop) (inr h) = h.2
 
-is_journal : (waves : Option ℕ) (into : List ℕ) (kept : Log) (m : MachineOf) → IsAmple waves kept → (r : Result Said Stop) (a : Answer) → journaled_on waves into kept m r → a ≡ answer_of r → IsJournaled waves into kept m a
+is_journal : (waves : Option ℕ) (into : List ℕ) (kept : Log) (m : MachineOf) → IsAmple waves kept → (r : Result Said Stopped) (a : Answer) → journaled_on waves into kept m r → a ≡ answer_of r → IsJournaled waves into kept m a
 is_journal waves into kept m ample (Ok said) a (inl h) is = (said, h, is)
 is_journal None into kept m ample (Ok said) a (inr h) is = absurd (not_spent kept m (budget_of kept) h.spent (omega arith) h.is_spent)
 is_journal (Some most) into kept m ample (Ok said) a (inr h) is = absurd (not_spent kept m most h.spent ample h.is_spent)
 is_journal waves into kept m ample (Err stop) a h is = absurd h
 
-is_trace : (kept : Log) (m : MachineOf) (r : Result Said Stop) (a : Answer) → trace_on kept m r → a ≡ answer_of r → IsTraced kept m a
+is_trace : (kept : Log) (m : MachineOf) (r : Result Said Stopped) (a : Answer) → trace_on kept m r → a ≡ answer_of r → IsTraced kept m a
 is_trace kept m (Ok said) a h is = (said, h, is)
 is_trace kept m (Err stop) a h is = absurd h
 
@@ -85,25 +96,25 @@ module _ (files : Files) where
   unfolding judged
   is_judged p limit h = (clean h.0, h.1, refl)
 
-  reported : (p : Program) (m : MachineOf) (limit : ℕ) (r : Result Said Stop) (a : Answer) → serial_run p m limit r → a ≡ answer_of r → IsReported p m limit a
+  reported : (p : Program) (m : MachineOf) (limit : ℕ) (r : Result Said Stopped) (a : Answer) → serial_run p m limit r → a ≡ answer_of r → IsReported p m limit a
   reported p m limit (Ok said) a h is = (said, h, is)
   reported p m limit (Err stop) a h is = absurd h
 
-  module _ (program : OneProgram) (fault_is : OneFault) (not_both : NotBoth) (verdict : OneVerdict) (serial : OneSerial) (logs_known : LogLaws) where
+  module _ (known : Known) where
     pub checks : (name : List ℕ) (p : Program) (a : Answer) → HasProgram files name p → IsAnswer files (Some (check name)) a → a ≡ answer_of (Ok (printed p))
-    checks name p a has is = is.is_answer ∙ ap answer_of (one_reply program fault_is not_both verdict serial logs_known files (Some (check name)) is.reply (Ok (printed p)) is.is_reply (prints name p has))
+    checks name p a has is = is.is_answer ∙ ap answer_of (one_reply known files (Some (check name)) is.reply (Ok (printed p)) is.is_reply (prints name p has))
 
-    by_model : (p : Program) (m : MachineOf) (limit : ℕ) (r : Result Said Stop) → has_length m.place p.chares ≡ true → judged p limit (Ok tt) → simulated p m limit r → serial_run p m limit r
+    by_model : (p : Program) (m : MachineOf) (limit : ℕ) (r : Result Said Stopped) → has_length m.place p.chares ≡ true → judged p limit (Ok tt) → simulated p m limit r → serial_run p m limit r
     unfolding simulated
     by_model p m limit r fit is h =
-        past (judged p limit) (λ _. serial_run p m limit) (one_judged program fault_is not_both verdict serial logs_known p limit) tt is r
+        past (judged p limit) (λ _. serial_run p m limit) (one_judged known p limit) tt is r
         (past (fits p.chares m) (λ _. and_then (judged p limit) (λ _. serial_run p m limit)) (one_fit p.chares m) tt (fitting p.chares m fit) r h)
 
-    runs : (name : List ℕ) (word : MachineWord) (limit : ℕ) (p : Program) (m : MachineOf) (r : Result Said Stop)
+    runs : (name : List ℕ) (word : MachineWord) (limit : ℕ) (p : Program) (m : MachineOf) (r : Result Said Stopped)
         → CanRun files name word limit p m → reply_to files (Some (model name word limit)) r → serial_run p m limit r
     unfolding reply_to
     runs name word limit p m r can h =
-        let one = one_accepted program fault_is not_both verdict serial logs_known files name in
+        let one = one_accepted known files name in
         by_model p m limit r can.is_fitting (is_judged p limit can.is_clean)
         (past (machine_named files word) (λ m. simulated p m limit) (one_named files word) m (names word m can.machine) r
         (past (accepted files name) (λ p. and_then (machine_named files word) (λ m. simulated p m limit)) one p (accepts name p can.program) r h))
@@ -116,20 +127,20 @@ module _ (files : Files) where
     unfolding logged
     logs p limit histories h = (clean histories, h, refl)
 
-    ran_on : (waves : Option ℕ) (p : Program) (m : MachineOf) (limit : ℕ) (r : Result Said Stop) → has_length m.place p.chares ≡ true → (histories : List History) → IsVerdict p limit (clean histories)
+    ran_on : (waves : Option ℕ) (p : Program) (m : MachineOf) (limit : ℕ) (r : Result Said Stopped) → has_length m.place p.chares ≡ true → (histories : List History) → IsVerdict p limit (clean histories)
         → IsAmple waves (log_of histories (length p.entries)) → ran waves p m limit r → serial_run p m limit r
     unfolding ran
     ran_on waves p m limit r fit histories is ample h =
         let kept = log_of histories (length p.entries) in
         past_waves (serial_run p m limit) waves kept m ample r
-        (past (logged p limit) (λ kept. and_then (within waves kept m) (λ _. serial_run p m limit)) (one_logged program fault_is not_both verdict serial logs_known p limit) kept (logs p limit histories is) r
+        (past (logged p limit) (λ kept. and_then (within waves kept m) (λ _. serial_run p m limit)) (one_logged known p limit) kept (logs p limit histories is) r
         (past (fits p.chares m) (λ _. and_then (logged p limit) (λ kept. and_then (within waves kept m) (λ _. serial_run p m limit))) (one_fit p.chares m) tt (fitting p.chares m fit) r h))
 
-    runs_on : (name : List ℕ) (word : MachineWord) (limit : ℕ) (waves : Option ℕ) (p : Program) (m : MachineOf) (r : Result Said Stop)
+    runs_on : (name : List ℕ) (word : MachineWord) (limit : ℕ) (waves : Option ℕ) (p : Program) (m : MachineOf) (r : Result Said Stopped)
         → CanRun files name word limit p m → IsAmpleFor waves p limit → reply_to files (Some (run name word limit waves)) r → serial_run p m limit r
     unfolding reply_to
     runs_on name word limit waves p m r can ample h =
-        let one = one_accepted program fault_is not_both verdict serial logs_known files name in
+        let one = one_accepted known files name in
         ran_on waves p m limit r can.is_fitting can.is_clean.0 can.is_clean.1 (ample can.is_clean.0 can.is_clean.1)
         (past (machine_named files word) (λ m. ran waves p m limit) (one_named files word) m (names word m can.machine) r
         (past (accepted files name) (λ p. and_then (machine_named files word) (λ m. ran waves p m limit)) one p (accepts name p can.program) r h))
@@ -145,44 +156,44 @@ module _ (files : Files) where
 
     pub emulates : (name into : List ℕ) (limit : ℕ) (p : Program) (histories : List History) (a : Answer)
         → CanEmulate files name limit p histories → IsAnswer files (Some (emulate name into limit)) a → a ≡ logged_in into p histories
-    emulates name into limit p histories a can is = is.is_answer ∙ ap answer_of (one_reply program fault_is not_both verdict serial logs_known files (Some (emulate name into limit)) is.reply
+    emulates name into limit p histories a can is = is.is_answer ∙ ap answer_of (one_reply known files (Some (emulate name into limit)) is.reply
         (Ok (kept_in into (log_of histories (length p.entries)))) is.is_reply (keeps name into limit p histories can))
 
     names_log : (name : List ℕ) (kept : Log) → HasLog files name kept → log_named files name (Ok kept)
     unfolding log_named log_in
-    names_log name kept h = (log_text kept, read_whole log_limit files name (log_text kept) h.is_there (omega (arith, logs_known.small kept h.is_valid)), (h.is_valid, refl))
+    names_log name kept h = (log_text kept, read_whole log_limit files name (log_text kept) h.is_there (omega (arith, known.logs.small kept h.is_valid)), (h.is_valid, refl))
 
-    foretold : (kept : Log) (m : MachineOf) (r : Result Said Stop) (a : Answer) → timed_on kept m r → a ≡ answer_of r → IsPredicted kept m a
+    foretold : (kept : Log) (m : MachineOf) (r : Result Said Stopped) (a : Answer) → timed_on kept m r → a ≡ answer_of r → IsPredicted kept m a
     foretold kept m (Ok said) a h is = (said, h, is)
     foretold kept m (Err stop) a h is = absurd h
 
-    on_machine : (waves : Option ℕ) (kept : Log) (m : MachineOf) (r : Result Said Stop) → has_length m.place kept.chares ≡ true → IsAmple waves kept → predicted waves kept m r → timed_on kept m r
+    on_machine : (waves : Option ℕ) (kept : Log) (m : MachineOf) (r : Result Said Stopped) → has_length m.place kept.chares ≡ true → IsAmple waves kept → predicted waves kept m r → timed_on kept m r
     unfolding predicted
     on_machine waves kept m r fit ample h = past_waves (timed_on kept m) waves kept m ample r
         (past (fits kept.chares m) (λ _. and_then (within waves kept m) (λ _. timed_on kept m)) (one_fit kept.chares m) tt (fitting kept.chares m fit) r h)
 
-    with_journal : (waves : Option ℕ) (into : List ℕ) (kept : Log) (m : MachineOf) (r : Result Said Stop) → has_length m.place kept.chares ≡ true → journaled waves into kept m r → journaled_on waves into kept m r
+    with_journal : (waves : Option ℕ) (into : List ℕ) (kept : Log) (m : MachineOf) (r : Result Said Stopped) → has_length m.place kept.chares ≡ true → journaled waves into kept m r → journaled_on waves into kept m r
     unfolding journaled
     with_journal waves into kept m r fit h = past (fits kept.chares m) (λ _. journaled_on waves into kept m) (one_fit kept.chares m) tt (fitting kept.chares m fit) r h
 
-    with_trace : (kept : Log) (m : MachineOf) (r : Result Said Stop) → has_length m.place kept.chares ≡ true → traced kept m r → trace_on kept m r
+    with_trace : (kept : Log) (m : MachineOf) (r : Result Said Stopped) → has_length m.place kept.chares ≡ true → traced kept m r → trace_on kept m r
     unfolding traced
     with_trace kept m r fit h = past (fits kept.chares m) (λ _. trace_on kept m) (one_fit kept.chares m) tt (fitting kept.chares m fit) r h
 
     -- past the log and the machine
-    on_both : (name : List ℕ) (word : MachineWord) (next : Log → MachineOf → Step Said) (kept : Log) (m : MachineOf) (r : Result Said Stop)
+    on_both : (name : List ℕ) (word : MachineWord) (next : Log → MachineOf → Step Said) (kept : Log) (m : MachineOf) (r : Result Said Stopped)
         → CanPredict files name word kept m → and_then (log_named files name) (λ kept. and_then (machine_named files word) (λ m. next kept m)) r → next kept m r
     on_both name word next kept m r can h =
-        let one = one_log logs_known files name (one_contents log_limit files name) in
+        let one = one_log known.logs files name (one_contents log_limit files name) in
         past (machine_named files word) (λ m. next kept m) (one_named files word) m (names word m can.machine) r
         (past (log_named files name) (λ kept. and_then (machine_named files word) (λ m. next kept m)) one kept (names_log name kept can.log) r h)
 
-    foretells : (name : List ℕ) (word : MachineWord) (waves : Option ℕ) (journal : Option (List ℕ)) (kept : Log) (m : MachineOf) (r : Result Said Stop)
-        → CanPredict files name word kept m → reply_to files (Some (predict name word waves journal)) r → step.foretold waves journal kept m r
+    foretells : (name : List ℕ) (word : MachineWord) (waves : Option ℕ) (journal : Option (List ℕ)) (kept : Log) (m : MachineOf) (r : Result Said Stopped)
+        → CanPredict files name word kept m → reply_to files (Some (predict name word waves journal)) r → asked_of_log waves journal kept m r
     unfolding reply_to
-    foretells name word waves journal kept m r can h = on_both name word (step.foretold waves journal) kept m r can h
+    foretells name word waves journal kept m r can h = on_both name word (asked_of_log waves journal) kept m r can h
 
-    traces_on : (name : List ℕ) (word : MachineWord) (kept : Log) (m : MachineOf) (r : Result Said Stop) → CanPredict files name word kept m → reply_to files (Some (trace name word)) r → traced kept m r
+    traces_on : (name : List ℕ) (word : MachineWord) (kept : Log) (m : MachineOf) (r : Result Said Stopped) → CanPredict files name word kept m → reply_to files (Some (trace name word)) r → traced kept m r
     unfolding reply_to
     traces_on name word kept m r can h = on_both name word traced kept m r can h
 

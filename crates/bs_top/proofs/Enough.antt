@@ -1,25 +1,22 @@
 -- What waves from ticks 0 come to, told of a log on a machine.
-use Rattle.std.proofs.Common.{◌≡◌, ◌≤◌, ◌<◌, ◌+◌, ◌^◌, ℕ, zero, suc, Bool, List, length, refl, sym, ◌∙◌, subst, arith, Option, None, Some, Result, Ok, Err}
+use Rattle.std.proofs.Common.{◌≡◌, ◌<◌, ℕ, Bool, List, refl, sym, ◌∙◌, subst, arith, Option, None, Some, Result, Ok, Err}
 use Rattle.std.specs.Prelude.{IfErr}
 use Rattle.bs_line.specs.declared.corrections.Correction.{Correction}
 use Rattle.bs_log.specs.declared.log.Log.{Log}
 use Rattle.bs_log.specs.declared.log.MailRef.{MailRef}
-use Rattle.bs_machine.specs.Machine.{machine_view}
+use Rattle.bs_machine.specs.Machine.{MachineOf, machine_view}
 use Rattle.bs_machine.specs.declared.fitted.Fitted.{Fitted}
-use Rattle.std.proofs.lemmas.Nat.{mul-le}
-use Rattle.bs_semantics.specs.Serial.{Machine}
 use Rattle.bs_settle.specs.Noted.{AreNoted}
 use Rattle.bs_settle.specs.Settled.{IsFault, IsSpent, OfWaves, StillAt}
 use Rattle.bs_settle.specs.declared.settling.BudgetSpent.{BudgetSpent}
 use Rattle.bs_settle.specs.declared.settling.SettleFault.{SettleFault}
 use Rattle.bs_settle.specs.declared.settling.SettleFault.TheVariants as settle
 use Rattle.bs_times.specs.Machine.{machine_of}
-use Rattle.bs_times.specs.Bounds.{IsShort}
-use Rattle.bs_times.specs.Net.{Net, Ticks, net_of, row_of}
-use Rattle.bs_times.specs.Times.{IsListed, budget, greatest_to}
-use Rattle.bs_top.specs.Answer.{AreWavesOn, IsNetOn, IsTooFew, budget_of, most_waves, no_ticks, within}
+use Rattle.bs_times.specs.Net.{Net, Ticks, net_of}
+use Rattle.bs_times.specs.Times.{IsListed, budget}
+use Rattle.bs_top.specs.Waves.{AreWavesOn, IsNetOn, IsTooFew, budget_of, most_waves, no_ticks, within}
 use Rattle.bs_top.specs.Step.{Told}
-use Rattle.bs_top.specs.Stops.{stop_for_waves}
+use Rattle.bs_top.specs.Stopped.{stopped_for_waves}
 
 pub if_err : {A E : Type 0} (r : Result A E) (P Q : E → Type 0) → ((e : E) → P e → Q e) → IfErr r P → IfErr r Q
 if_err (Ok a) P Q to h = tt
@@ -48,6 +45,11 @@ module _ (net : Net) (ticks : Ticks) (zero : (m : MailRef) → IsListed net m �
     spent = h.spent;
   }
 
+-- where no number of waves is given, none is asked for
+pub unbounded : (kept : Log) (m : MachineOf) → within None kept m (Ok tt)
+unfolding within
+unbounded kept m = refl
+
 -- a log on a machine that was fitted to it
 module _ (kept : Log) (fitted : Fitted) (is_fitted : fitted.chares ≡ kept.chares) where
   on_it : (net : Net) → net ≡ net_of kept (machine_of fitted) → IsNetOn kept (machine_view fitted.machine) net
@@ -66,7 +68,7 @@ module _ (kept : Log) (fitted : Fitted) (is_fitted : fitted.chares ≡ kept.char
     not_few : (s : BudgetSpent) → IsSpent net ticks (budget_of kept) s → ⊥
     not_few s h = let few = subst (λ net. budget_of kept < budget net) is h.few in omega (arith, few)
 
-    pub spends : {A : Type 0} (view : A → Unit {0}) (waves : Option ℕ) (why : SettleFault) → IsFault net ticks (most_waves waves kept) why → Told view (within waves kept (machine_view fitted.machine)) (Err (stop_for_waves why))
+    pub spends : {A : Type 0} (view : A → Unit {0}) (waves : Option ℕ) (why : SettleFault) → IsFault net ticks (most_waves waves kept) why → Told view (within waves kept (machine_view fitted.machine)) (Err (stopped_for_waves why))
     unfolding within
     spends view waves settle.Memory h = tt
     spends view None (settle.BudgetSpent s) h = absurd (not_few s h)
@@ -74,17 +76,3 @@ module _ (kept : Log) (fitted : Fitted) (is_fitted : fitted.chares ≡ kept.char
 
     pub waves_on : (waves : Option ℕ) (lists : List (List Correction)) (settled : Bool) → AreNoted net ticks (most_waves waves kept) lists settled → AreWavesOn waves kept (machine_view fitted.machine) lists settled
     waves_on waves lists settled h = (net, on_it net is, noted net ticks zero (most_waves waves kept) lists settled h)
-
--- ---- so many waves as are always enough are few
-
-greatest_most : (f : ℕ → ℕ) (most n : ℕ) → ((i : ℕ) → 1 ≤ i → i ≤ n → f i ≤ most) → greatest_to f n ≤ most
-greatest_most f most zero each = omega arith
-greatest_most f most (suc n) each =
-    let rest = greatest_most f most n (λ i some low. each i some (omega (arith, low))) in
-    omega (arith, rest, each (suc n) (omega arith) (omega arith))
-
-pub budget_few : (kept : Log) (machine : Machine) → IsShort (net_of kept machine) → (1 ≤ budget_of kept) × (budget_of kept ≤ 2 ^ 40)
-budget_few kept machine short =
-    let depth = greatest_most (λ i. (row_of kept i).depth) 262144 (length kept.rows) (λ i some most. (short.depth i (some, most)).1) in
-    let product = mul-le (length kept.rows) (greatest_to (λ i. (row_of kept i).depth) (length kept.rows) + 1) 262144 262145 short.rows (omega (arith, depth)) in
-    (omega arith, omega (arith, product))

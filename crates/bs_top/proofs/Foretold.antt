@@ -4,7 +4,6 @@ use Rattle.bs_log.specs.Collected.{log_of}
 use Rattle.bs_log.specs.declared.history.History.{History}
 use Rattle.bs_log.specs.declared.outcome.Outcome.{Outcome}
 use Rattle.bs_machine.specs.Machine.{MachineOf}
-use Rattle.bs_parse.specs.TextLaws.{OneProgram, OneFault, NotBoth}
 use Rattle.bs_semantics.specs.Serial.{IsSerial, Machine, timed}
 use Rattle.bs_semantics.specs.Verdict.{IsVerdict, clean}
 use Rattle.bs_times.specs.Machine.{IsTimely, machine_of}
@@ -12,12 +11,13 @@ use Rattle.bs_times.specs.Net.{Starts, net_of}
 use Rattle.bs_times.specs.Outcomes.{outcome_of}
 use Rattle.bs_times.specs.Times.{IsConsistent}
 use Rattle.bs_tree.specs.declared.tree.Program.{Program}
-use Rattle.bs_top.specs.Answer.{Answer, IsPrediction, IsReport, answer_of, reported}
+use Rattle.bs_top.specs.Answer.{Answer, answer_of}
+use Rattle.bs_top.specs.Reports.{IsPrediction, IsReport, reported}
 use Rattle.bs_top.specs.Complete.{IsJournaled, IsPredicted, IsReported}
 use Rattle.bs_top.specs.Step.{Said}
+use Rattle.bs_top.specs.Known.{Known, LogLaws, OneSerial}
 use Rattle.bs_top.proofs.AsModel.{verdict_count}
-use Rattle.bs_top.proofs.OneAnswer.{OneSerial, OneVerdict, one_run}
-use Rattle.bs_top.proofs.OneLog.{LogLaws}
+use Rattle.bs_top.proofs.OneAnswer.{one_run}
 use Rattle.bs_top.proofs.OneMachine.{one_machine}
 
 outcome_is : (o q : Outcome) → timed o ≡ timed q → o ≡ q
@@ -51,6 +51,6 @@ module _ (serial : OneSerial) (p : Program) (limit : ℕ) (hs : List History) (v
       ∙ as_serial a (answer_of (Ok j.report)) h (j.report, j.is_report, refl)
 
 -- two reports of what the serial machine model gives are one answer
-module _ (program : OneProgram) (fault_is : OneFault) (not_both : NotBoth) (verdict : OneVerdict) (serial : OneSerial) (logs_known : LogLaws) where
+module _ (known : Known) where
   pub as_reported : (p : Program) (m : MachineOf) (limit : ℕ) (a b : Answer) → IsReported p m limit a → IsReported p m limit b → b ≡ a
-  as_reported p m limit a b h k = k.2 ∙ ap answer_of (one_run program fault_is not_both verdict serial logs_known p m limit (Ok k.0) (Ok h.0) k.1 h.1) ∙ sym h.2
+  as_reported p m limit a b h k = k.2 ∙ ap answer_of (one_run known p m limit (Ok k.0) (Ok h.0) k.1 h.1) ∙ sym h.2

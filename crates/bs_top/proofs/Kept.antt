@@ -2,12 +2,12 @@
 use Rattle.std.proofs.Common.{◌≡◌, ℕ, List, [], refl, sym, ap, ap₂, ◌∙◌, append-nil, Option, Some, None}
 use Rattle.std.specs.FinMap as map
 use Rattle.bs_desk.specs.Outside.{Outside, IsReading, more_told}
-use Rattle.bs_top.specs.Place.{Note, Place, output, errors, in_file, noted, put}
+use Rattle.bs_top.specs.Targets.{Note, TargetOf, output, errors, in_file, noted, put}
 use Rattle.bs_top.specs.Performs.{Keeps}
 use Rattle.std.specs.Option.{option_map}
 
 -- a text was put to its place after reading, and a call that writes may have been refused
-pub kept_put : (place : Place) (text : List ℕ) (old mid new : Outside) → IsReading old mid → new ≡ record (put place text mid) { write_faults = new.write_faults } → Keeps (put place text old) new
+pub kept_put : (place : TargetOf) (text : List ℕ) (old mid new : Outside) → IsReading old mid → new ≡ record (put place text mid) { write_faults = new.write_faults } → Keeps (put place text old) new
 kept_put output text old mid new r w = λ i. record {
   files = (ap (λ (o : Outside). o.files) w ∙ ap (λ (o : Outside). o.files) r) i;
   rest = new.rest;

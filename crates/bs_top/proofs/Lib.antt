@@ -9,6 +9,7 @@ mod Wholes
 mod Replying
 mod Told
 mod Causing
+mod Counting
 mod OneStep
 mod OneMachine
 mod OneAnswer
@@ -21,3 +22,4 @@ mod Foretelling
 mod OneLog
 mod Foretold
 mod Completing
+mod SomeAnswer

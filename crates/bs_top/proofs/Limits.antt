@@ -8,7 +8,8 @@ use Rattle.bs_num.specs.declared.fault.NumFault.{NumFault}
 use Rattle.bs_num.proofs.RoundTrip.{number_most}
 use Rattle.bs_words.specs.Command.{command_of, number_if, number_or, numbers_of, settings_fit}
 use Rattle.bs_words.specs.Parts.{command_in, reading}
-use Rattle.bs_words.specs.Roles.{are_in_roles, at_least}
+use Rattle.bs_words.specs.Numbers.{at_least}
+use Rattle.bs_words.specs.Roles.{are_in_roles}
 use Rattle.bs_words.specs.Texts.{Texts}
 use Rattle.bs_words.specs.Verbs.{roles_of, verb_of}
 use Rattle.bs_words.specs.declared.command.Command.{Command}

@@ -11,25 +11,29 @@ use Rattle.bs_machine.specs.File.{machine_in}
 use Rattle.bs_machine.specs.Machine.{MachineOf, flat_in}
 use Rattle.bs_times.specs.Machine.{IsTimely, machine_of}
 use Rattle.bs_times.specs.Net.{Causal, net_of}
-use Rattle.bs_parse.specs.TextLaws.{OneProgram, OneFault, NotBoth}
 use Rattle.bs_report.specs.declared.faults.Fault.TheVariants as fault
-use Rattle.bs_semantics.specs.Serial.{IsSerial, Machine, Simulated, timed}
-use Rattle.bs_semantics.specs.Verdict.{IsVerdict, Verdict}
+use Rattle.bs_semantics.specs.Serial.{IsSerial, Machine, timed}
 use Rattle.bs_tree.specs.declared.tree.Program.{Program}
-use Rattle.bs_top.specs.declared.stop.Stop.TheVariants.{Refused}
-use Rattle.bs_top.specs.Answer.{Answer, IsAnswer, IsReport, accepted, answer_of, checked, contents, file_limit, fits, foretold, if_clean, judged, kept_in, log_if_clean, log_limit, logged, log_named, machine_named, or_bad_machine, printed, program_in, ran, reply_to, reported, serial_run, simulated, traced, whole, within}
+use Rattle.bs_top.specs.declared.stopped.Stopped.TheVariants.{Refused}
+use Rattle.bs_top.specs.Answer.{Answer, IsAnswer, answer_of, reply_to}
+use Rattle.bs_top.specs.Reports.{IsReport, reported, serial_run}
+use Rattle.bs_top.specs.Inputs.{accepted, checked, contents, file_limit, fits, log_limit, log_named, machine_named, or_bad_machine, program_in, whole}
+use Rattle.bs_top.specs.commands.Predict.{predicted_with}
+use Rattle.bs_top.specs.Verdicts.{if_clean, judged, log_if_clean, logged}
+use Rattle.bs_top.specs.commands.Emulate.{kept_in}
+use Rattle.bs_top.specs.commands.Check.{printed}
+use Rattle.bs_top.specs.commands.Run.{ran}
+use Rattle.bs_top.specs.commands.Model.{simulated}
+use Rattle.bs_top.specs.commands.Trace.{traced}
+use Rattle.bs_top.specs.Waves.{within}
 use Rattle.bs_top.specs.Step.{Said, and_then, gives}
-use Rattle.bs_top.specs.Words.{Asked, check as check_asked, model, emulate, run, predict, trace, MachineWord, flat, file}
+use Rattle.bs_top.specs.Words.{Asked, check as check_asked, model, emulate, run, predict, trace}
+use Rattle.bs_words.specs.Machine.{MachineWord, flat, file}
+use Rattle.bs_top.specs.Known.{Known}
 use Rattle.bs_top.proofs.OneMachine.{one_machine}
-use Rattle.bs_top.proofs.OneLog.{LogLaws, one_foretold, one_log, one_traced, one_within, valid_log}
+use Rattle.bs_top.proofs.OneLog.{one_foretold, one_log, one_traced, one_within, valid_log}
 use Rattle.bs_top.proofs.Simulating.{histories_of}
 use Rattle.bs_top.proofs.OneStep.{IsOne, one_after, one_given, one_where}
-
-abbrev pub OneSerial : Type 0
-OneSerial = (p : Program) (limit : ℕ) (m : Machine) (r s : Simulated) → IsSerial p limit m r → IsSerial p limit m s → r ≡ s
-
-abbrev pub OneVerdict : Type 0
-OneVerdict = (p : Program) (limit : ℕ) (v w : Verdict) → IsVerdict p limit v → IsVerdict p limit w → v ≡ w
 
 pub one_contents : (most : ℕ) (files : Files) (name : List ℕ) → IsOne (contents most files name)
 unfolding contents
@@ -69,26 +73,26 @@ one_checked p (Ok a) (Err s) h k = absurd (not_refused p k.0 h k.1)
 one_checked p (Err r) (Ok b) h k = absurd (not_refused p h.0 k h.1)
 one_checked p (Err r) (Err s) h k = ap (λ t. Err t) (h.2 ∙ ap (λ f. Refused (fault.CheckFailed f)) (broken_is p h.0 k.0 h.1 k.1) ∙ sym k.2)
 
-module _ (program : OneProgram) (fault_is : OneFault) (not_both : NotBoth) (verdict : OneVerdict) (serial : OneSerial) (logs : LogLaws) where
+module _ (known : Known) where
   one_program : (text : List ℕ) → IsOne (program_in text)
   unfolding program_in
-  one_program text (Ok p) (Ok q) h k = ap (λ r. Ok r) (program text p q h k)
-  one_program text (Ok p) (Err s) h k = absurd (not_both text p k.0 h k.1)
-  one_program text (Err r) (Ok q) h k = absurd (not_both text q h.0 k h.1)
-  one_program text (Err r) (Err s) h k = ap (λ t. Err t) (h.2 ∙ ap (λ f. Refused (fault.BadProgram f)) (fault_is text h.0 k.0 h.1 k.1) ∙ sym k.2)
+  one_program text (Ok p) (Ok q) h k = ap (λ r. Ok r) (known.program text p q h k)
+  one_program text (Ok p) (Err s) h k = absurd (known.not_both text p k.0 h k.1)
+  one_program text (Err r) (Ok q) h k = absurd (known.not_both text q h.0 k h.1)
+  one_program text (Err r) (Err s) h k = ap (λ t. Err t) (h.2 ∙ ap (λ f. Refused (fault.BadProgram f)) (known.fault_is text h.0 k.0 h.1 k.1) ∙ sym k.2)
 
   pub one_judged : (p : Program) (limit : ℕ) → IsOne (judged p limit)
   unfolding judged
-  one_judged p limit r s h k = sym h.2 ∙ ap (if_clean limit) (verdict p limit h.0 k.0 h.1 k.1) ∙ k.2
+  one_judged p limit r s h k = sym h.2 ∙ ap (if_clean limit) (known.verdict p limit h.0 k.0 h.1 k.1) ∙ k.2
 
   pub one_logged : (p : Program) (limit : ℕ) → IsOne (logged p limit)
   unfolding logged
-  one_logged p limit r s h k = sym h.2 ∙ ap (log_if_clean limit (length p.entries)) (verdict p limit h.0 k.0 h.1 k.1) ∙ k.2
+  one_logged p limit r s h k = sym h.2 ∙ ap (log_if_clean limit (length p.entries)) (known.verdict p limit h.0 k.0 h.1 k.1) ∙ k.2
 
   same_outcome : (p : Program) (m : MachineOf) (limit : ℕ) (a b : Said) (h : IsReport p m limit a) (k : IsReport p m limit b) → h.outcome ≡ k.outcome
   same_outcome p m limit a b h k =
       let machine = one_machine k.fitted h.fitted (k.is_machine ∙ sym h.is_machine) (k.is_fitted ∙ sym h.is_fitted) in
-      outcome_is h.outcome k.outcome (serial p limit (machine_of h.fitted) (timed h.outcome) (timed k.outcome) h.is_outcome (subst (λ m. IsSerial p limit m (timed k.outcome)) machine k.is_outcome))
+      outcome_is h.outcome k.outcome (known.serial p limit (machine_of h.fitted) (timed h.outcome) (timed k.outcome) h.is_outcome (subst (λ m. IsSerial p limit m (timed k.outcome)) machine k.is_outcome))
 
   pub one_run : (p : Program) (m : MachineOf) (limit : ℕ) → IsOne (serial_run p m limit)
   one_run p m limit (Ok a) (Ok b) h k =
@@ -102,13 +106,13 @@ module _ (program : OneProgram) (fault_is : OneFault) (not_both : NotBoth) (verd
       (λ _. one_after (judged p limit) (λ _. serial_run p m limit) (one_judged p limit) (λ _. one_run p m limit))
 
   log_causal : (p : Program) (limit : ℕ) (kept : Log) → logged p limit (Ok kept) → (machine : Machine) → IsTimely machine → Causal (net_of kept machine)
-  log_causal p limit kept is machine timely = let of = histories_of p limit kept is in subst (λ k. Causal (net_of k machine)) (sym of.2) (logs.run_causal p limit machine of.0 timely of.1)
+  log_causal p limit kept is machine timely = let of = histories_of p limit kept is in subst (λ k. Causal (net_of k machine)) (sym of.2) (known.logs.run_causal p limit machine of.0 timely of.1)
 
   pub one_ran : (waves : Option ℕ) (p : Program) (m : MachineOf) (limit : ℕ) → IsOne (ran waves p m limit)
   unfolding ran
   one_ran waves p m limit = one_after (fits p.chares m) (λ _. and_then (logged p limit) (λ kept. and_then (within waves kept m) (λ _. serial_run p m limit))) (one_fit p.chares m)
       (λ _. one_where (logged p limit) (λ kept. and_then (within waves kept m) (λ _. serial_run p m limit)) (one_logged p limit)
-      (λ kept is. one_after (within waves kept m) (λ _. serial_run p m limit) (one_within logs kept (log_causal p limit kept is) m waves) (λ _. one_run p m limit)))
+      (λ kept is. one_after (within waves kept m) (λ _. serial_run p m limit) (one_within known.logs kept (log_causal p limit kept is) m waves) (λ _. one_run p m limit)))
 
   pub one_accepted : (files : Files) (name : List ℕ) → IsOne (accepted files name)
   unfolding accepted
@@ -133,11 +137,11 @@ module _ (program : OneProgram) (fault_is : OneFault) (not_both : NotBoth) (verd
       one_after (accepted files name) (λ p. and_then (machine_named files word) (λ m. ran waves p m limit)) (one_accepted files name)
       (λ p. one_after (machine_named files word) (λ m. ran waves p m limit) (one_named files word) (λ m. one_ran waves p m limit))
   one_reply files (Some (predict name word waves journal)) =
-      one_where (log_named files name) (λ kept. and_then (machine_named files word) (λ m. foretold waves journal kept m)) (one_log logs files name (one_contents log_limit files name))
-      (λ kept is. one_after (machine_named files word) (λ m. foretold waves journal kept m) (one_named files word) (λ m. one_foretold logs kept (valid_log files name kept is) m (one_fit kept.chares m) waves journal))
+      one_where (log_named files name) (λ kept. and_then (machine_named files word) (λ m. predicted_with waves journal kept m)) (one_log known.logs files name (one_contents log_limit files name))
+      (λ kept is. one_after (machine_named files word) (λ m. predicted_with waves journal kept m) (one_named files word) (λ m. one_foretold known.logs kept (valid_log files name kept is) m (one_fit kept.chares m) waves journal))
   one_reply files (Some (trace name word)) =
-      one_where (log_named files name) (λ kept. and_then (machine_named files word) (λ m. traced kept m)) (one_log logs files name (one_contents log_limit files name))
-      (λ kept is. one_after (machine_named files word) (λ m. traced kept m) (one_named files word) (λ m. one_traced logs kept (valid_log files name kept is) m (one_fit kept.chares m)))
+      one_where (log_named files name) (λ kept. and_then (machine_named files word) (λ m. traced kept m)) (one_log known.logs files name (one_contents log_limit files name))
+      (λ kept is. one_after (machine_named files word) (λ m. traced kept m) (one_named files word) (λ m. one_traced known.logs kept (valid_log files name kept is) m (one_fit kept.chares m)))
 
   pub one : (files : Files) (asked : Option Asked) (a b : Answer) → IsAnswer files asked a → IsAnswer files asked b → a ≡ b
   one files asked a b h k = h.is_answer ∙ ap answer_of (one_reply files asked h.reply k.reply h.is_reply k.is_reply) ∙ sym k.is_answer

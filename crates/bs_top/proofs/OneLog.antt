@@ -3,19 +3,15 @@
 use Rattle.std.proofs.Common.{◌≡◌, ◌≤◌, ◌<◌, ◌+◌, ℕ, Bool, true, false, List, [], ◌∷◌, length, refl, sym, ap, ap₂, ◌∙◌, subst, inl, inr, Option, None, Some, Ok, Err, arith}
 use Rattle.bs_desk.specs.Outside.{Files}
 use Rattle.bs_line.specs.declared.corrections.Correction.{Correction}
-use Rattle.bs_log.specs.Collected.{log_of}
 use Rattle.bs_log.specs.End as log
-use Rattle.bs_log.specs.declared.history.History.{History}
 use Rattle.bs_log.specs.declared.log.Log.{Log}
 use Rattle.bs_log.specs.declared.log.Row.{Row}
 use Rattle.bs_log.specs.Valid.{IsValid}
-use Rattle.bs_logcheck.specs.declared.rule.LogRule.{LogRule}
 use Rattle.bs_logread.specs.Fault.{IsFault}
 use Rattle.bs_logread.specs.declared.fault.LogFault.{LogFault}
 use Rattle.bs_logread.specs.declared.fault.LogFault.TheVariants as read
 use Rattle.bs_logtext.specs.Text.{log_text}
 use Rattle.bs_machine.specs.Machine.{MachineOf}
-use Rattle.bs_machine.specs.declared.fitted.Fitted.{Fitted}
 use Rattle.bs_report.specs.declared.faults.Fault.TheVariants as fault
 use Rattle.bs_report.specs.Fault.{fault_text}
 use Rattle.bs_report.specs.Trace.{trace_text}
@@ -24,44 +20,33 @@ use Rattle.bs_settle.specs.Settled.{IsSpent, StillAt}
 use Rattle.bs_settle.specs.Timed.{starts_from}
 use Rattle.bs_settle.specs.declared.settling.BudgetSpent.{BudgetSpent}
 use Rattle.bs_semantics.specs.Serial.{Machine}
-use Rattle.bs_semantics.specs.Verdict.{IsVerdict, clean}
-use Rattle.bs_tree.specs.declared.tree.Program.{Program}
 use Rattle.bs_times.specs.Machine.{IsTimely, machine_of}
-use Rattle.bs_times.specs.Net.{Causal, HasRow, Net, Starts, Ticks, net_of}
+use Rattle.bs_times.specs.Net.{Causal, Net, Starts, net_of}
 use Rattle.bs_times.specs.Outcomes.{outcome_of}
 use Rattle.bs_times.specs.Times.{IsConsistent}
-use Rattle.bs_top.specs.declared.stop.Ending.TheVariants.{Run, Spent}
-use Rattle.bs_top.specs.declared.stop.Stop.TheVariants.{Refused}
-use Rattle.bs_top.specs.Answer.{AreWavesOn, IsEnough, IsLogFault, IsNetOn, IsPrediction, IsTooFew, contents, fits, foretold, journal_in, journaled, journaled_on, log_in, log_limit, log_named, most_waves, no_ticks, predicted, reported, timed_on, trace_on, traced, within}
-use Rattle.bs_top.specs.Place.{errors, output}
+use Rattle.bs_top.specs.declared.reply.Ending.TheVariants.{Run, Spent}
+use Rattle.bs_top.specs.declared.stopped.Stopped.TheVariants.{Refused}
+use Rattle.bs_top.specs.Waves.{AreWavesOn, IsEnough, IsNetOn, IsTooFew, most_waves, no_ticks, within}
+use Rattle.bs_top.specs.Inputs.{IsLogFault, contents, fits, log_in, log_limit, log_named}
+use Rattle.bs_top.specs.Reports.{IsPrediction, reported, timed_on}
+use Rattle.bs_top.specs.commands.Predict.{predicted_with, predicted}
+use Rattle.bs_top.specs.commands.Journal.{journal_in, journaled, journaled_on}
+use Rattle.bs_top.specs.commands.Trace.{trace_on, traced}
+use Rattle.bs_top.specs.Targets.{errors, output}
 use Rattle.bs_top.specs.Step.{Said, and_then}
+use Rattle.bs_top.specs.Known.{LogLaws}
 use Rattle.bs_top.proofs.OneMachine.{one_machine}
 use Rattle.bs_top.proofs.OneStep.{IsOne, one_after}
-
--- what the texts and the times of logs are known for
-pub record LogLaws : Type 0 where
-  pub text : (a b : Log) → IsValid a → IsValid b → log_text a ≡ log_text b → a ≡ b
-  pub fault : (text : List ℕ) (m n : ℕ) (r s : LogRule) → IsFault text m r → IsFault text n s → (m ≡ n) × (r ≡ s)
-  pub none : (log : Log) (line : ℕ) (rule : LogRule) → IsValid log → IsFault (log_text log) line rule → ⊥
-  pub small : (log : Log) → IsValid log → length (log_text log) < 67108864
-  pub timely : (f : Fitted) → IsTimely (machine_of f)
-  pub causal : (log : Log) (machine : Machine) → IsValid log → IsTimely machine → Causal (net_of log machine)
-  pub run_causal : (p : Program) (limit : ℕ) (m : Machine) (hs : List History) → IsTimely m → IsVerdict p limit (clean hs) → Causal (net_of (log_of hs (length p.entries)) m)
-  pub table : (net : Net) → Causal net → (s z : Starts) → IsConsistent net s → IsConsistent net z → (i : ℕ) → HasRow net i → s i ≡ z i
-  pub spent : (net : Net) → Causal net → (estimates : Ticks) (most : ℕ) (s z : BudgetSpent) → IsSpent net estimates most s → IsSpent net estimates most z → s ≡ z
-  pub either : (net : Net) → Causal net → (estimates : Ticks) (most : ℕ) (s : BudgetSpent) → IsSpent net estimates most s → StillAt net estimates most → ⊥
-  pub noting : (net : Net) → Causal net → (estimates : Ticks) (most : ℕ) (a b : List (List Correction)) (p q : Bool) → AreNoted net estimates most a p → AreNoted net estimates most b q → (a ≡ b) × (p ≡ q)
-  pub outcome : (log : Log) (machine : Machine) → IsValid log → IsTimely machine → (s z : Starts) → IsConsistent (net_of log machine) s → IsConsistent (net_of log machine) z → outcome_of log machine s ≡ outcome_of log machine z
 
 true_or_false : {A : Type 0} → true ≡ false → A
 true_or_false e = absurd (cc)
 
 -- a spent budget and a trace, as they are told
 abbrev spent_said : List ℕ → List (List Correction) → BudgetSpent → Said
-spent_said into lists spent = record { ending = Spent; note = Some (journal_in into lists false); place = errors; text = fault_text (fault.BudgetSpent spent) }
+spent_said into lists spent = record { ending = Spent; note = Some (journal_in into lists false); target = errors; text = fault_text (fault.BudgetSpent spent) }
 
 abbrev traced_said : Log → Machine → List ℕ → Said
-traced_said kept machine starts = record { ending = Run (log.end_of kept); note = None; place = output; text = trace_text kept machine starts }
+traced_said kept machine starts = record { ending = Run (log.end_of kept); note = None; target = output; text = trace_text kept machine starts }
 
 -- tables that agree at each row start them alike
 starts_same : (s z : Starts) (k : ℕ) (rows : List Row) → ((i : ℕ) → k ≤ i → i < k + length rows → s i ≡ z i) → starts_from s k rows ≡ starts_from z k rows
@@ -172,7 +157,7 @@ module _ (laws : LogLaws) where
       unfolding journaled
       one_with_journal waves into = one_after (fits kept.chares m) (λ _. journaled_on waves into kept m) one (λ _. one_journaled waves into)
 
-      pub one_foretold : (waves : Option ℕ) (journal : Option (List ℕ)) → IsOne (foretold waves journal kept m)
+      pub one_foretold : (waves : Option ℕ) (journal : Option (List ℕ)) → IsOne (predicted_with waves journal kept m)
       one_foretold waves None = one_predicted waves
       one_foretold waves (Some into) = one_with_journal waves into
 

@@ -4,8 +4,8 @@ use Rattle.std.proofs.lemmas.Bool.Decides.{nat_tests}
 use Rattle.std.specs.FinMap as map
 use Rattle.bs_desk.specs.Outside.{Files}
 use Rattle.bs_report.specs.declared.faults.Fault.TheVariants as fault
-use Rattle.bs_top.specs.declared.stop.Stop.TheVariants.{Refused, NoFile}
-use Rattle.bs_top.specs.Answer.{contents, whole}
+use Rattle.bs_top.specs.declared.stopped.Stopped.TheVariants.{Refused, NoFile}
+use Rattle.bs_top.specs.Inputs.{contents, whole}
 
 is_within : (n most : ℕ) → n ≤ most → nat_le n most ≡ true
 is_within n most l = grind (arith, nat_tests, l)

@@ -10,15 +10,22 @@ use Rattle.bs_words.specs.declared.fault.WordsFault.{WordsFault}
 use Rattle.bs_words.specs.declared.fault.WordsFault.TheVariants as words
 use Rattle.bs_report.specs.declared.faults.Fault.TheVariants as fault
 use Rattle.std.specs.Option.{option_and_then, option_map}
-use Rattle.bs_top.specs.declared.stop.Reply.{Reply}
-use Rattle.bs_top.specs.declared.stop.Stop.{Stop}
-use Rattle.bs_top.specs.declared.stop.Stop.TheVariants.{Refused, NoFile, ReadFault, Memory}
-use Rattle.bs_top.specs.Answer.{accepted, checked, contents, file_limit, kept_in, logged, machine_named, printed, program_in, ran, reply_to, simulated}
+use Rattle.bs_top.specs.declared.reply.Reply.{Reply}
+use Rattle.bs_top.specs.declared.stopped.Stopped.{Stopped}
+use Rattle.bs_top.specs.declared.stopped.Stopped.TheVariants.{Refused, NoFile, ReadFault, Memory}
+use Rattle.bs_top.specs.Inputs.{accepted, checked, contents, file_limit, machine_named, program_in}
+use Rattle.bs_top.specs.commands.Emulate.{kept_in}
+use Rattle.bs_top.specs.Verdicts.{logged}
+use Rattle.bs_top.specs.commands.Check.{printed}
+use Rattle.bs_top.specs.commands.Run.{ran}
+use Rattle.bs_top.specs.Answer.{reply_to}
+use Rattle.bs_top.specs.commands.Model.{simulated}
 use Rattle.bs_top.specs.declared.asked.Asked.{Asked as AskedFor}
 use Rattle.bs_top.specs.Seen.{asked_of, said_of}
 use Rattle.bs_top.specs.Step.{Said, Step, Told, and_then, gives}
-use Rattle.bs_top.specs.Stops.{stop_for_words}
-use Rattle.bs_top.specs.Words.{Asked, check, model, emulate, run, predict, trace, MachineWord, built}
+use Rattle.bs_top.specs.Stopped.{stopped_for_words}
+use Rattle.bs_top.specs.Words.{Asked, check, model, emulate, run, predict, trace, built}
+use Rattle.bs_words.specs.Machine.{MachineWord}
 use Rattle.bs_tree.specs.declared.tree.Program.{Program}
 use Rattle.bs_top.proofs.Machines.{items}
 use Rattle.bs_top.proofs.Simulating.{itself, this_log}
@@ -44,30 +51,30 @@ abbrev pub on_both : Files → List ℕ → MachineWord → (Program → Machine
 on_both files name word next = and_then (accepted files name) (λ p. and_then (machine_named files word) (λ m. next p m))
 
 module _ (files : Files) (name : List ℕ) where
-  pub no_text : (stop : Stop) → Told items (contents file_limit files name) (Err stop) → Told program_of (accepted files name) (Err stop)
+  pub no_text : (stop : Stopped) → Told items (contents file_limit files name) (Err stop) → Told program_of (accepted files name) (Err stop)
   unfolding accepted
   no_text stop h = stops items program_of (contents file_limit files name) (λ text. and_then (program_in text) (λ p. and_then (checked p) (λ _. gives (Ok p)))) stop h
 
   module _ (text : List ℕ) (is_text : contents file_limit files name (Ok text)) where
-    pub no_program : (stop : Stop) → Told itself (program_in text) (Err stop) → Told program_of (accepted files name) (Err stop)
+    pub no_program : (stop : Stopped) → Told itself (program_in text) (Err stop) → Told program_of (accepted files name) (Err stop)
     unfolding accepted
     no_program stop h = goes_on program_of (contents file_limit files name) (λ text. and_then (program_in text) (λ p. and_then (checked p) (λ _. gives (Ok p)))) text (Err stop) is_text
         (stops itself program_of (program_in text) (λ p. and_then (checked p) (λ _. gives (Ok p))) stop h)
 
     module _ (p : Program) (is_program : program_in text (Ok p)) where
-      ends : (r : Result Accepted Stop) → IfOk r (λ a. a.program ≡ p) → Told nothing (checked p) r → Told program_of (and_then (checked p) (λ _. gives (Ok p))) r
+      ends : (r : Result Accepted Stopped) → IfOk r (λ a. a.program ≡ p) → Told nothing (checked p) r → Told program_of (and_then (checked p) (λ _. gives (Ok p))) r
       ends (Ok a) same h = (tt, h, ap (λ q. Ok q) (sym same))
       ends (Err (Refused why)) same h = inl h
       ends (Err NoFile) same h = inl h
       ends (Err ReadFault) same h = tt
       ends (Err Memory) same h = tt
 
-      pub accepts : (r : Result Accepted Stop) → IfOk r (λ a. a.program ≡ p) → Told nothing (checked p) r → Told program_of (accepted files name) r
+      pub accepts : (r : Result Accepted Stopped) → IfOk r (λ a. a.program ≡ p) → Told nothing (checked p) r → Told program_of (accepted files name) r
       unfolding accepted
       accepts r same h = goes_on program_of (contents file_limit files name) (λ text. and_then (program_in text) (λ p. and_then (checked p) (λ _. gives (Ok p)))) text r is_text
           (goes_on program_of (program_in text) (λ p. and_then (checked p) (λ _. gives (Ok p))) p r is_program (ends r same h))
 
-  pub not_accepted : (q : Asked) (stop : Stop) → AsksFor name q → Told program_of (accepted files name) (Err stop) → Told said_of (reply_to files (Some q)) (Err stop)
+  pub not_accepted : (q : Asked) (stop : Stopped) → AsksFor name q → Told program_of (accepted files name) (Err stop) → Told said_of (reply_to files (Some q)) (Err stop)
   unfolding reply_to
   not_accepted (check n) stop is h = subst (λ k. Told said_of (reply_to files (Some (check k))) (Err stop)) is
       (stops program_of said_of (accepted files name) (λ p. gives (Ok (printed p))) stop h)
@@ -86,11 +93,11 @@ module _ (files : Files) (name : List ℕ) where
     prints said is = (p, is_program, ap (λ s. Ok s) (sym is))
 
     module _ (into : List ℕ) (limit : ℕ) where
-      on_log : (r : Result Reply Stop) → Told said_of (and_then (logged p limit) (λ kept. gives (Ok (kept_in into kept)))) r → Told said_of (reply_to files (Some (emulate name into limit))) r
+      on_log : (r : Result Reply Stopped) → Told said_of (and_then (logged p limit) (λ kept. gives (Ok (kept_in into kept)))) r → Told said_of (reply_to files (Some (emulate name into limit))) r
       unfolding reply_to
       on_log r h = goes_on said_of (accepted files name) (λ p. and_then (logged p limit) (λ kept. gives (Ok (kept_in into kept)))) p r is_program h
 
-      pub no_log : (stop : Stop) → Told this_log (logged p limit) (Err stop) → Told said_of (reply_to files (Some (emulate name into limit))) (Err stop)
+      pub no_log : (stop : Stopped) → Told this_log (logged p limit) (Err stop) → Told said_of (reply_to files (Some (emulate name into limit))) (Err stop)
       no_log stop h = on_log (Err stop) (stops this_log said_of (logged p limit) (λ kept. gives (Ok (kept_in into kept))) stop h)
 
       pub keeps_log : (kept : Log) (reply : Reply) → logged p limit (Ok kept) → said_of reply ≡ kept_in into kept → Told said_of (reply_to files (Some (emulate name into limit))) (Ok reply)
@@ -98,20 +105,20 @@ module _ (files : Files) (name : List ℕ) where
 
     -- a program and a machine, and then what comes of them
     module _ (word : MachineWord) (next : Program → MachineOf → Step Said) where
-      on_program : (r : Result Reply Stop) → Told said_of (and_then (machine_named files word) (λ m. next p m)) r → Told said_of (on_both files name word next) r
+      on_program : (r : Result Reply Stopped) → Told said_of (and_then (machine_named files word) (λ m. next p m)) r → Told said_of (on_both files name word next) r
       on_program r h = goes_on said_of (accepted files name) (λ p. and_then (machine_named files word) (λ m. next p m)) p r is_program h
 
-      pub no_machine : (stop : Stop) → Told machine_view (machine_named files word) (Err stop) → Told said_of (on_both files name word next) (Err stop)
+      pub no_machine : (stop : Stopped) → Told machine_view (machine_named files word) (Err stop) → Told said_of (on_both files name word next) (Err stop)
       no_machine stop h = on_program (Err stop) (stops machine_view said_of (machine_named files word) (λ m. next p m) stop h)
 
-      pub on_machine : (m : MachineOf) (r : Result Reply Stop) → machine_named files word (Ok m) → Told said_of (next p m) r → Told said_of (on_both files name word next) r
+      pub on_machine : (m : MachineOf) (r : Result Reply Stopped) → machine_named files word (Ok m) → Told said_of (next p m) r → Told said_of (on_both files name word next) r
       on_machine m r h k = on_program r (goes_on said_of (machine_named files word) (λ m. next p m) m r h k)
 
-  pub told_model : (word : MachineWord) (limit : ℕ) (r : Result Reply Stop) → Told said_of (on_both files name word (λ p m. simulated p m limit)) r → Told said_of (reply_to files (Some (model name word limit))) r
+  pub told_model : (word : MachineWord) (limit : ℕ) (r : Result Reply Stopped) → Told said_of (on_both files name word (λ p m. simulated p m limit)) r → Told said_of (reply_to files (Some (model name word limit))) r
   unfolding reply_to
   told_model word limit r h = h
 
-  pub told_run : (word : MachineWord) (limit : ℕ) (waves : Option ℕ) (r : Result Reply Stop) → Told said_of (on_both files name word (λ p m. ran waves p m limit)) r → Told said_of (reply_to files (Some (run name word limit waves))) r
+  pub told_run : (word : MachineWord) (limit : ℕ) (waves : Option ℕ) (r : Result Reply Stopped) → Told said_of (on_both files name word (λ p m. ran waves p m limit)) r → Told said_of (reply_to files (Some (run name word limit waves))) r
   unfolding reply_to
   told_run word limit waves r h = h
 
@@ -120,7 +127,7 @@ unfolding reply_to
 no_words files = refl
 
 -- words that are no command
-pub bad_words : (files : Files) (command : Option Command) (why : WordsFault) → (why ≢ words.Memory → command ≡ None) → Told said_of (reply_to files (option_and_then built command)) (Err (stop_for_words why))
+pub bad_words : (files : Files) (command : Option Command) (why : WordsFault) → (why ≢ words.Memory → command ≡ None) → Told said_of (reply_to files (option_and_then built command)) (Err (stopped_for_words why))
 bad_words files command words.BadWords h = subst (λ c. Told said_of (reply_to files (option_and_then built c)) (Err (Refused fault.BadWords))) (sym (h (λ e. absurd (cc)))) (no_words files)
 bad_words files command words.Memory h = tt
 

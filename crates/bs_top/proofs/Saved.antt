@@ -7,7 +7,7 @@ use Rattle.std.specs.FinMap as map
 use Rattle.bs_desk.specs.declared.desk.Port.TheVariants as port
 use Rattle.bs_desk.specs.Outside.{Outside, Files, extended_by, longer_by, more_told, with_created, written}
 use Rattle.bs_desk.proofs.WrittenLemmas.{same_files}
-use Rattle.bs_top.specs.Place.{with_file}
+use Rattle.bs_top.specs.Targets.{with_file}
 
 cond_same : {A : Type 0} (b : Bool) (x y z : A) → cond b x (cond b y z) ≡ cond b x z
 cond_same true x y z = refl

@@ -20,31 +20,34 @@ use Rattle.bs_semantics.specs.Rounds.{CleanAt, round}
 use Rattle.bs_semantics.specs.Verdict as rounds
 use Rattle.bs_report.specs.declared.faults.Fault.TheVariants as fault
 use Rattle.bs_tree.specs.declared.tree.Program.{Program}
-use Rattle.bs_top.specs.declared.stop.Stop.{Stop}
-use Rattle.bs_top.specs.declared.stop.Stop.TheVariants.{Refused, NoFile, ReadFault, Memory}
-use Rattle.bs_top.specs.Answer.{IsReport, checked, fits, if_clean, judged, log_if_clean, logged, program_in, twice_told, serial_run, simulated}
+use Rattle.bs_top.specs.declared.stopped.Stopped.{Stopped}
+use Rattle.bs_top.specs.declared.stopped.Stopped.TheVariants.{Refused, NoFile, ReadFault, Memory}
+use Rattle.bs_top.specs.Reports.{IsReport, serial_run}
+use Rattle.bs_top.specs.Inputs.{checked, fits, program_in}
+use Rattle.bs_top.specs.Verdicts.{if_clean, judged, log_if_clean, logged, twice_told}
+use Rattle.bs_top.specs.commands.Model.{simulated}
 use Rattle.bs_top.specs.Computing.{IsUnclean}
 use Rattle.bs_top.specs.Seen.{said_of}
 use Rattle.bs_top.specs.Step.{Said, Told, and_then}
-use Rattle.bs_top.specs.Stops.{stop_for_check, stop_for_program}
+use Rattle.bs_top.specs.Stopped.{stopped_for_check, stopped_for_program}
 use Rattle.bs_top.proofs.Stages.{stops, goes_on}
 
 abbrev pub itself : Program → Program
 itself p = p
 
-abbrev result_of : Log → Result Log Stop
+abbrev result_of : Log → Result Log Stopped
 result_of log = Ok log
 
-abbrev stopped : Stop → Result (Unit {0}) Stop
+abbrev stopped : Stopped → Result (Unit {0}) Stopped
 stopped stop = Err stop
 
-abbrev no_log_for : Stop → Result Log Stop
+abbrev no_log_for : Stopped → Result Log Stopped
 no_log_for stop = Err stop
 
 abbrev pub this_log : Log → Log
 this_log log = log
 
-pub bad_program : (text : List ℕ) (why : ParseFault) → (why ≢ parse.Memory → IsFault text why) → Told itself (program_in text) (Err (stop_for_program why))
+pub bad_program : (text : List ℕ) (why : ParseFault) → (why ≢ parse.Memory → IsFault text why) → Told itself (program_in text) (Err (stopped_for_program why))
 unfolding program_in
 bad_program text (parse.Lex why) h = (parse.Lex why, h (λ e. absurd (cc)), refl)
 bad_program text (parse.Unexpected byte kind) h = (parse.Unexpected byte kind, h (λ e. absurd (cc)), refl)
@@ -52,7 +55,7 @@ bad_program text (parse.TooDeep byte) h = (parse.TooDeep byte, h (λ e. absurd (
 bad_program text (parse.TooManyStatements byte) h = (parse.TooManyStatements byte, h (λ e. absurd (cc)), refl)
 bad_program text parse.Memory h = tt
 
-pub is_refused : (p : Program) (why : CheckFault) → (why ≢ check.Memory → IsRefused p why) → Told (λ (a : Accepted). tt) (checked p) (Err (stop_for_check why))
+pub is_refused : (p : Program) (why : CheckFault) → (why ≢ check.Memory → IsRefused p why) → Told (λ (a : Accepted). tt) (checked p) (Err (stopped_for_check why))
 unfolding checked
 is_refused p (check.Refused stmt rule) h = (check.Refused stmt rule, h (λ e. absurd (cc)), refl)
 is_refused p check.Memory h = tt
@@ -97,7 +100,7 @@ module _ (p : Program) (limit : ℕ) where
   never_clean never log h = let clean = clean_round (rounds.clean h.0) h.1 refl in never clean.0 clean.1
 
   -- what names the cause of a verdict, as it comes to the step
-  pub unclean_told : {A : Type 0} (view : A → Unit {0}) (stop : Stop) → IsUnclean p limit stop → Told view (judged p limit) (Err stop)
+  pub unclean_told : {A : Type 0} (view : A → Unit {0}) (stop : Stopped) → IsUnclean p limit stop → Told view (judged p limit) (Err stop)
   unclean_told view (Refused why) h = h
   unclean_told view NoFile h = h
   unclean_told view ReadFault h = tt
@@ -117,11 +120,11 @@ module _ (p : Program) (limit : ℕ) where
   never_clean_at never n clean = never (round p limit n) (rounds.is_clean n clean)
 
   -- where a program isn't run, it has no log
-  pub no_log : (stop : Stop) → judged p limit (Err stop) → logged p limit (Err stop)
+  pub no_log : (stop : Stopped) → judged p limit (Err stop) → logged p limit (Err stop)
   unfolding judged logged
   no_log stop h = by h.0 h.1 h.2
     where
-      same : (s : Stop) → stopped s ≡ stopped stop → no_log_for s ≡ no_log_for stop
+      same : (s : Stopped) → stopped s ≡ stopped stop → no_log_for s ≡ no_log_for stop
       same s e = cc
 
       by : (v : rounds.Verdict) → rounds.IsVerdict p limit v → if_clean limit v ≡ Err stop
@@ -130,7 +133,7 @@ module _ (p : Program) (limit : ℕ) where
       by (rounds.twice t) is e = (rounds.twice t, is, same (Refused (fault.Ambiguous (twice_told t))) e)
       by rounds.too_long is e = (rounds.too_long, is, same (Refused (fault.TooLong limit)) e)
 
-  pub no_log_told : (stop : Stop) → IsUnclean p limit stop → Told this_log (logged p limit) (Err stop)
+  pub no_log_told : (stop : Stopped) → IsUnclean p limit stop → Told this_log (logged p limit) (Err stop)
   no_log_told (Refused why) h = no_log (Refused why) h
   no_log_told NoFile h = no_log NoFile h
   no_log_told ReadFault h = tt
@@ -167,11 +170,11 @@ module _ (p : Program) (limit : ℕ) where
       by rounds.too_long is e = absurd (cc)
 
   -- one that has no log isn't run
-  pub not_judged : (stop : Stop) → logged p limit (Err stop) → judged p limit (Err stop)
+  pub not_judged : (stop : Stopped) → logged p limit (Err stop) → judged p limit (Err stop)
   unfolding judged logged
   not_judged stop h = by h.0 h.1 h.2
     where
-      same : (s : Stop) → no_log_for s ≡ no_log_for stop → stopped s ≡ stopped stop
+      same : (s : Stopped) → no_log_for s ≡ no_log_for stop → stopped s ≡ stopped stop
       same s e = cc
 
       by : (v : rounds.Verdict) → rounds.IsVerdict p limit v → log_if_clean limit (length p.entries) v ≡ Err stop
@@ -181,12 +184,12 @@ module _ (p : Program) (limit : ℕ) where
       by rounds.too_long is e = (rounds.too_long, is, same (Refused (fault.TooLong limit)) e)
 
 module _ (p : Program) (m : MachineOf) (limit : ℕ) where
-  pub unfit : (stop : Stop) → Told (λ (f : Fitted). tt) (fits p.chares m) (Err stop) → Told said_of (simulated p m limit) (Err stop)
+  pub unfit : (stop : Stopped) → Told (λ (f : Fitted). tt) (fits p.chares m) (Err stop) → Told said_of (simulated p m limit) (Err stop)
   unfolding simulated
   unfit stop h = stops (λ (f : Fitted). tt) said_of (fits p.chares m) (λ _. and_then (judged p limit) (λ _. serial_run p m limit)) stop h
 
   module _ (fit : fits p.chares m (Ok tt)) where
-    pub not_clean : {A : Type 0} (view : A → Unit {0}) (stop : Stop) → Told view (judged p limit) (Err stop) → Told said_of (simulated p m limit) (Err stop)
+    pub not_clean : {A : Type 0} (view : A → Unit {0}) (stop : Stopped) → Told view (judged p limit) (Err stop) → Told said_of (simulated p m limit) (Err stop)
     unfolding simulated
     not_clean view stop h = goes_on said_of (fits p.chares m) (λ _. and_then (judged p limit) (λ _. serial_run p m limit)) tt (Err stop) fit
         (stops view said_of (judged p limit) (λ _. serial_run p m limit) stop h)

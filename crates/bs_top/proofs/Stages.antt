@@ -1,17 +1,17 @@
 -- One step after another: what each gives is what the whole gives.
 use Rattle.std.proofs.Common.{◌≡◌, Option, Some, None, Result, Ok, Err, inl, inr, subst, sym}
 use Rattle.std.specs.Prelude.{IfSome, IsErrAnd}
-use Rattle.bs_top.specs.declared.stop.Stop.{Stop}
-use Rattle.bs_top.specs.declared.stop.Stop.TheVariants.{Refused, NoFile, ReadFault, Memory}
+use Rattle.bs_top.specs.declared.stopped.Stopped.{Stopped}
+use Rattle.bs_top.specs.declared.stopped.Stopped.TheVariants.{Refused, NoFile, ReadFault, Memory}
 use Rattle.bs_top.specs.Step.{Step, Told, and_then}
 
-pub stops : {A B C D : Type 0} (view : C → A) (last : D → B) (first : Step A) (next : A → Step B) (stop : Stop) → Told view first (Err stop) → Told last (and_then first next) (Err stop)
+pub stops : {A B C D : Type 0} (view : C → A) (last : D → B) (first : Step A) (next : A → Step B) (stop : Stopped) → Told view first (Err stop) → Told last (and_then first next) (Err stop)
 stops view last first next (Refused fault) h = inl h
 stops view last first next NoFile h = inl h
 stops view last first next ReadFault h = tt
 stops view last first next Memory h = tt
 
-pub goes_on : {A B D : Type 0} (last : D → B) (first : Step A) (next : A → Step B) (a : A) (r : Result D Stop) → first (Ok a) → Told last (next a) r → Told last (and_then first next) r
+pub goes_on : {A B D : Type 0} (last : D → B) (first : Step A) (next : A → Step B) (a : A) (r : Result D Stopped) → first (Ok a) → Told last (next a) r → Told last (and_then first next) r
 goes_on last first next a (Ok b) h k = (a, h, k)
 goes_on last first next a (Err (Refused fault)) h k = inr (a, h, k)
 goes_on last first next a (Err NoFile) h k = inr (a, h, k)
@@ -35,7 +35,7 @@ each_two {A} o q P Q R e f h k = go o h (subst (λ r. IfSome r Q) e k)
     go (Some a) p r = f a p r
 
 -- a refusal that is passed on
-pub at_stop : {D : Type 0} (P : Result D Stop → Type 0) (stop : Stop) (r : Result D Stop) → IsErrAnd r (λ s. s ≡ stop) → P (Err stop) → P r
+pub at_stop : {D : Type 0} (P : Result D Stopped → Type 0) (stop : Stopped) (r : Result D Stopped) → IsErrAnd r (λ s. s ≡ stop) → P (Err stop) → P r
 at_stop P stop (Ok d) e h = absurd e
 at_stop P stop (Err s) e h = subst (λ t. P (Err t)) (sym e) h
 

@@ -8,15 +8,15 @@ use Rattle.bs_report.specs.declared.faults.Fault.{Fault}
 use Rattle.bs_report.specs.declared.faults.Fault.TheVariants as fault
 use Rattle.bs_top.specs.declared.status.Status.{Status}
 use Rattle.bs_top.specs.declared.status.Status.TheVariants as status
-use Rattle.bs_top.specs.declared.stop.Ending.{Ending}
-use Rattle.bs_top.specs.declared.stop.Ending.TheVariants as ending
-use Rattle.bs_top.specs.declared.stop.Stop.{Stop}
-use Rattle.bs_top.specs.declared.stop.Stop.TheVariants as stop
+use Rattle.bs_top.specs.declared.reply.Ending.{Ending}
+use Rattle.bs_top.specs.declared.reply.Ending.TheVariants as ending
+use Rattle.bs_top.specs.declared.stopped.Stopped.{Stopped}
+use Rattle.bs_top.specs.declared.stopped.Stopped.TheVariants as stop
 use Rattle.bs_top.specs.Words.{Asked}
 use Rattle.bs_top.specs.Step.{Said}
 use Rattle.bs_top.specs.Answer.{Answer, IsAnswer, answer_of, refused, refused_by, reply_to, status_of}
 use Rattle.bs_top.specs.Performs.{Answers, AreCut, IsBut, IsCut, IsCutNote, Keeps, Puts, Refuses, Tells, WritesAnswer, written_status}
-use Rattle.bs_top.specs.Place.{Note, Place, output, errors, in_file, noted, put}
+use Rattle.bs_top.specs.Targets.{Note, TargetOf, output, errors, in_file, noted, put}
 use Rattle.bs_top.proofs.Kept.{kept_put, kept_reading, kept_refused, kept_silent, reading_noted}
 
 -- a status that comes with an answer's whole text
@@ -31,7 +31,7 @@ counted : (new o : Outside) → new ≡ o → IsBut o new
 counted new o e = e ∙ λ i. record o { write_faults = (sym (ap (λ (o : Outside). o.write_faults) e)) i }
 
 module _ (old mid new : Outside) (r : IsReading old mid) where
-  cut : (place : Place) (text : List ℕ) → IsCut IsBut place text mid new → IsCut Keeps place text old new
+  cut : (place : TargetOf) (text : List ℕ) → IsCut IsBut place text mid new → IsCut Keeps place text old new
   cut place text (inl front) = inl (record { count = front.count; within = front.within; is_put = kept_put place (take front.count text) old mid new r front.is_put })
   cut (in_file name) text (inr same) = inr (kept_refused old mid new r same)
   cut output text (inr none) = absurd none
@@ -41,7 +41,7 @@ module _ (old mid new : Outside) (r : IsReading old mid) where
   cut_note None h = absurd h
   cut_note (Some note) h = cut (in_file note.name) note.text h
 
-module _ (old mid new : Outside) (r : IsReading old mid) (note : Option Note) (place : Place) (text : List ℕ) where
+module _ (old mid new : Outside) (r : IsReading old mid) (note : Option Note) (place : TargetOf) (text : List ℕ) where
   are_cut : AreCut IsBut note place text mid new → AreCut Keeps note place text old new
   are_cut (inl h) = inl (cut_note old mid new r note h)
   are_cut (inr h) = inr (cut (noted note old) (noted note mid) new (reading_noted note old mid r) place text h)
@@ -72,20 +72,20 @@ module _ (files : Files) (asked : Option Asked) (old new : Outside) where
   wanting mid s r e same = subst (Answers files asked old new) (sym e) (inl (kept_reading old new (subst (IsReading old) (sym same) r)))
 
   -- the texts of an answer are told after reading
-  says : (mid : Outside) (a : Answer) (written : Result (Unit {0}) DeskFault) → IsWholeStatus a.status → IsReading old mid → IsAnswer files asked a → Tells a.note a.place a.text mid new written
+  says : (mid : Outside) (a : Answer) (written : Result (Unit {0}) DeskFault) → IsWholeStatus a.status → IsReading old mid → IsAnswer files asked a → Tells a.note a.target a.text mid new written
       → Answers files asked old new (written_status a.status written)
-  says mid a (Ok _) final r is e = whole_status a.status final a is (record { status = refl; kept = whole old mid new r a.note a.place a.text e })
-  says mid a (Err desk.Failed) final r is h = (a, is, are_cut old mid new r a.note a.place a.text h.1)
-  says mid a (Err desk.Memory) final r is h = inr (a, is, are_cut old mid new r a.note a.place a.text h.1)
+  says mid a (Ok _) final r is e = whole_status a.status final a is (record { status = refl; kept = whole old mid new r a.note a.target a.text e })
+  says mid a (Err desk.Failed) final r is h = (a, is, are_cut old mid new r a.note a.target a.text h.1)
+  says mid a (Err desk.Memory) final r is h = inr (a, is, are_cut old mid new r a.note a.target a.text h.1)
 
   -- a text without a note
-  tells : (mid : Outside) (place : Place) (text : List ℕ) (written : Result (Unit {0}) DeskFault) → Puts place text mid new written → Tells None place text mid new written
+  tells : (mid : Outside) (place : TargetOf) (text : List ℕ) (written : Result (Unit {0}) DeskFault) → Puts place text mid new written → Tells None place text mid new written
   tells mid place text (Ok _) e = e
   tells mid place text (Err why) h = (h.0, inr h.1)
 
   refuses : (mid : Outside) (s : Status) (f : Fault) → IsWholeStatus (refused_by f) → IsReading old mid → IsAnswer files asked (refused f) → Refuses f mid new s → Answers files asked old new s
   refuses mid s f final r is (inl memory) = wanting mid s r memory.0 memory.1
-  refuses mid s f final r is (inr told) = subst (Answers files asked old new) (sym told.2) (says mid (refused f) told.0 final r is (tells mid (refused f).place (refused f).text told.0 told.1))
+  refuses mid s f final r is (inr told) = subst (Answers files asked old new) (sym told.2) (says mid (refused f) told.0 final r is (tells mid (refused f).target (refused f).text told.0 told.1))
 
 final_end : (e : Ending) → IsWholeStatus (status_of e)
 final_end (ending.Run end.Settled) = tt
@@ -106,11 +106,11 @@ final_fault (fault.BudgetSpent spent) = tt
 final_fault (fault.TooBig limit) = tt
 
 module _ (files : Files) (asked : Option Asked) where
-  answers : (reply : Result Said Stop) → reply_to files asked reply → IsAnswer files asked (answer_of reply)
+  answers : (reply : Result Said Stopped) → reply_to files asked reply → IsAnswer files asked (answer_of reply)
   answers reply is = record { reply = reply; is_reply = is; is_answer = refl }
 
   pub said_reply : (old mid new : Outside) (said : Said) (written : Result (Unit {0}) DeskFault) (s wanted : Status) → IsReading old mid → reply_to files asked (Ok said)
-      → Tells said.note said.place said.text mid new written → wanted ≡ status_of said.ending → s ≡ written_status wanted written → Answers files asked old new s
+      → Tells said.note said.target said.text mid new written → wanted ≡ status_of said.ending → s ≡ written_status wanted written → Answers files asked old new s
   said_reply old mid new said written s wanted r is tells status_is is_status =
       subst (Answers files asked old new) (sym (is_status ∙ ap (λ w. written_status w written) status_is))
       (says files asked old new mid (answer_of (Ok said)) written (final_end said.ending) r (answers (Ok said) is) tells)

@@ -3,9 +3,9 @@ use Rattle.std.specs.Prelude.{◌≡◌, ◌≤◌, ◌+◌, ◌⊎◌, ℕ, tru
 use Rattle.bs_desk.specs.Outside.{Outside, Rose}
 use Rattle.bs_report.specs.declared.faults.Fault.{Fault}
 use Rattle.bs_report.specs.declared.faults.Fault.TheVariants.{BadWords, TooBig}
-use Rattle.bs_top.specs.declared.stop.Stop.{Stop}
-use Rattle.bs_top.specs.declared.stop.Stop.TheVariants.{Refused, NoFile, ReadFault, Memory}
-use Rattle.bs_top.specs.Answer.{file_limit, log_limit}
+use Rattle.bs_top.specs.declared.stopped.Stopped.{Stopped}
+use Rattle.bs_top.specs.declared.stopped.Stopped.TheVariants.{Refused, NoFile, ReadFault, Memory}
+use Rattle.bs_top.specs.Inputs.{file_limit, log_limit}
 use Rattle.bs_top.specs.Words.{Asked, predict, trace}
 
 -- the most bytes that a file of a command may have
@@ -27,7 +27,7 @@ FaultCause most new BadWords = ⊥
 FaultCause most new (TooBig limit) = (new.found ≡ true) × (new.taken ≡ limit + 1) × IsBound most limit
 FaultCause most new _ = HasRead most new
 
-abbrev pub StepCause : {A : Type 0} → ℕ → Outside → Outside → Result A Stop → Type 0
+abbrev pub StepCause : {A : Type 0} → ℕ → Outside → Outside → Result A Stopped → Type 0
 StepCause most old new (Ok a) = HasRead most new
 StepCause most old new (Err (Refused fault)) = FaultCause most new fault
 StepCause most old new (Err NoFile) = (new.found ≡ false) × (new.taken ≡ 0)
@@ -35,7 +35,7 @@ StepCause most old new (Err ReadFault) = IsTrue old.can_fail × Rose old.read_fa
 StepCause most old new (Err Memory) = Unit {0}
 
 -- the same of a whole command: words that are none are told, and nothing else is
-abbrev pub ReplyCause : {A : Type 0} → Option Asked → Outside → Outside → Result A Stop → Type 0
+abbrev pub ReplyCause : {A : Type 0} → Option Asked → Outside → Outside → Result A Stopped → Type 0
 ReplyCause asked old new (Err (Refused BadWords)) = asked ≡ None
 ReplyCause asked old new (Err Memory) = Unit {0}
 ReplyCause asked old new r = IsSome asked × StepCause (most_of asked) old new r

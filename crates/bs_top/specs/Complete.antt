@@ -16,10 +16,16 @@ use Rattle.bs_semantics.specs.Verdict.{IsVerdict, clean}
 use Rattle.bs_tree.specs.declared.tree.Program.{Program}
 use Rattle.bs_top.specs.declared.status.Status.{Status}
 use Rattle.bs_top.specs.declared.status.Status.TheVariants as status
-use Rattle.bs_top.specs.Answer.{Answer, IsJournal, IsPrediction, IsReport, IsTracing, answer_of, budget_of, file_limit, kept_in}
+use Rattle.bs_top.specs.Answer.{Answer, answer_of}
+use Rattle.bs_top.specs.commands.Journal.{IsJournal}
+use Rattle.bs_top.specs.Reports.{IsPrediction, IsReport}
+use Rattle.bs_top.specs.commands.Trace.{IsTracing}
+use Rattle.bs_top.specs.Waves.{budget_of}
+use Rattle.bs_top.specs.Inputs.{file_limit}
+use Rattle.bs_top.specs.commands.Emulate.{kept_in}
 use Rattle.bs_top.specs.Performs.{WritesAnswer}
 use Rattle.bs_top.specs.Step.{Said}
-use Rattle.bs_top.specs.Words.{MachineWord, flat, file}
+use Rattle.bs_words.specs.Machine.{MachineWord, flat, file}
 
 -- the file of that name holds these bytes, and no more than the file of a program or a machine may have
 pub record HasFile (files : Files) (name bytes : List ℕ) : Type 0 where

@@ -1,5 +1,5 @@
 -- What performing a command does to the outside (docs/promises.md).
-use Rattle.std.specs.Prelude.{◌≡◌, ◌≤◌, ◌+◌, ◌⊎◌, ℕ, true, false, IsTrue, List, length, take, Option, Some, None, IsSome, Result, Ok, Err}
+use Rattle.std.specs.Prelude.{◌≡◌, ◌≤◌, ◌<◌, ◌+◌, ◌⊎◌, ℕ, true, false, IsTrue, List, length, take, Option, Some, None, IsSome, Result, Ok, Err}
 use Rattle.bs_desk.specs.declared.desk.DeskFault.{DeskFault}
 use Rattle.bs_desk.specs.declared.desk.DeskFault.TheVariants as desk
 use Rattle.bs_desk.specs.Outside.{Outside, Files, Rose}
@@ -8,14 +8,18 @@ use Rattle.bs_report.specs.Fault.{fault_text}
 use Rattle.bs_top.specs.declared.status.Status.{Status}
 use Rattle.bs_top.specs.declared.status.Status.TheVariants as status
 use Rattle.bs_top.specs.Words.{Asked}
-use Rattle.bs_top.specs.Place.{Note, Place, errors, in_file, noted, put}
+use Rattle.bs_top.specs.Targets.{Note, TargetOf, errors, in_file, noted, put}
 use Rattle.bs_top.specs.Answer.{Answer, IsAnswer, refused_by}
 use Rattle.bs_top.specs.Causes.{IsBound, most_of}
 
--- why a call that writes was refused: the desk can fail and its count of write faults rose, or memory was wanting
+-- why a call that writes was refused: the desk can fail and its count of write faults rose, or memory was wanting; and the
+-- count didn't fall
 abbrev pub WriteCause : DeskFault → Outside → Outside → Type 0
-WriteCause desk.Failed old new = IsTrue old.can_fail × Rose old.write_faults new.write_faults
-WriteCause desk.Memory old new = Unit {0}
+WriteCause fault old new = (old.write_faults ≤ new.write_faults) × (fault ≡ desk.Failed → IsTrue old.can_fail × Rose old.write_faults new.write_faults)
+
+-- the counts of faults don't fall
+abbrev pub NeverFall : Outside → Outside → Type 0
+NeverFall old new = (old.read_faults ≤ new.read_faults) × (old.write_faults ≤ new.write_faults)
 
 -- all is as it should be, but for the count of write faults
 abbrev pub IsBut : Outside → Outside → Type 0
@@ -23,18 +27,18 @@ IsBut wanted new = new ≡ record wanted { write_faults = new.write_faults }
 
 -- A text was cut off. In all this `As wanted new` says how what is outside is as wanted.
 module _ (As : Outside → Outside → Type 0) where
-  -- a front of the text is at its place
-  pub record IsFront (place : Place) (text : List ℕ) (old new : Outside) : Type 0 where
+  -- a front of the text is at its place, and not all of it
+  pub record IsFront (place : TargetOf) (text : List ℕ) (old new : Outside) : Type 0 where
     pub count : ℕ
-    pub within : count ≤ length text
+    pub within : count < length text
     pub is_put : As (put place (take count text) old) new
 
   -- the text is for a file, and that file wasn't made: all is as before
-  abbrev pub IsNotMade : Place → Outside → Outside → Type 0
+  abbrev pub IsNotMade : TargetOf → Outside → Outside → Type 0
   IsNotMade (in_file name) old new = As old new
   IsNotMade _ old new = ⊥
 
-  abbrev pub IsCut : Place → List ℕ → Outside → Outside → Type 0
+  abbrev pub IsCut : TargetOf → List ℕ → Outside → Outside → Type 0
   IsCut place text old new = IsFront place text old new ⊎ IsNotMade place old new
 
   -- a note was cut off
@@ -43,16 +47,16 @@ module _ (As : Outside → Outside → Type 0) where
   IsCutNote (Some note) old new = IsCut (in_file note.name) note.text old new
 
   -- the note was cut off, or the text behind it
-  abbrev pub AreCut : Option Note → Place → List ℕ → Outside → Outside → Type 0
+  abbrev pub AreCut : Option Note → TargetOf → List ℕ → Outside → Outside → Type 0
   AreCut note place text old new = IsCutNote note old new ⊎ IsCut place text (noted note old) new
 
 -- the text is at its place, or a front of it and the desk refused the rest, or its file couldn't be made
-abbrev pub Puts : Place → List ℕ → Outside → Outside → Result (Unit {0}) DeskFault → Type 0
+abbrev pub Puts : TargetOf → List ℕ → Outside → Outside → Result (Unit {0}) DeskFault → Type 0
 Puts place text old new (Ok _) = new ≡ put place text old
 Puts place text old new (Err fault) = WriteCause fault old new × IsCut IsBut place text old new
 
 -- the same of a note and a text behind it
-abbrev pub Tells : Option Note → Place → List ℕ → Outside → Outside → Result (Unit {0}) DeskFault → Type 0
+abbrev pub Tells : Option Note → TargetOf → List ℕ → Outside → Outside → Result (Unit {0}) DeskFault → Type 0
 Tells note place text old new (Ok _) = new ≡ put place text (noted note old)
 Tells note place text old new (Err fault) = WriteCause fault old new × AreCut IsBut note place text old new
 
@@ -124,12 +128,12 @@ Cause asked old new status.Memory = Unit {0}
 
 -- a front of what is to be written
 abbrev pub WritesFront : Answer → Outside → Outside → Type 0
-WritesFront a old new = AreCut Keeps a.note a.place a.text old new
+WritesFront a old new = AreCut Keeps a.note a.target a.text old new
 
 -- the answer's status, and its whole texts
 pub record WritesAnswer (a : Answer) (s : Status) (old new : Outside) : Type 0 where
   pub status : s ≡ a.status
-  pub kept : Keeps (put a.place a.text (noted a.note old)) new
+  pub kept : Keeps (put a.target a.text (noted a.note old)) new
 
 abbrev pub Answers : Files → Option Asked → Outside → Outside → Status → Type 0
 Answers files asked old new status.ReadFault = Keeps old new

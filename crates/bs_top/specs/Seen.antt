@@ -2,19 +2,14 @@
 use Rattle.std.specs.Prelude.{option_map, string_bytes}
 use Rattle.bs_top.specs.declared.asked.Asked.{Asked as AskedFor}
 use Rattle.bs_top.specs.declared.asked.Asked.TheVariants as asked
-use Rattle.bs_top.specs.declared.asked.MachineWord.{MachineWord as Machine}
-use Rattle.bs_top.specs.declared.asked.MachineWord.TheVariants as word
-use Rattle.bs_top.specs.declared.stop.Note.{Note as FileText}
-use Rattle.bs_top.specs.declared.stop.Reply.{Reply}
-use Rattle.bs_top.specs.declared.stop.Target.{Target}
-use Rattle.bs_top.specs.declared.stop.Target.TheVariants as target
-use Rattle.bs_top.specs.Place.{Note, Place, output, errors, in_file}
-use Rattle.bs_top.specs.Words.{AreWaves, Asked, check, model, emulate, run, predict, trace, IsLimit, MachineWord, flat, file}
+use Rattle.bs_top.specs.declared.reply.Note.{Note as FileText}
+use Rattle.bs_top.specs.declared.reply.Reply.{Reply}
+use Rattle.bs_top.specs.declared.reply.Target.{Target}
+use Rattle.bs_top.specs.declared.reply.Target.TheVariants as target
+use Rattle.bs_top.specs.Targets.{Note, TargetOf, output, errors, in_file}
+use Rattle.bs_top.specs.Words.{AreWaves, Asked, check, model, emulate, run, predict, trace, IsLimit}
+use Rattle.bs_words.specs.Machine.{word_of}
 use Rattle.bs_top.specs.Step.{Said}
-
-abbrev pub word_of : Machine → MachineWord
-word_of (word.Flat processors latency) = flat processors latency
-word_of (word.File name) = file name.now
 
 abbrev pub asked_of : AskedFor → Asked
 asked_of (asked.Check program) = check program.now
@@ -33,13 +28,13 @@ HasLimit (asked.Run program machine limit waves) = IsLimit limit × AreWaves wav
 HasLimit (asked.Predict log machine waves journal) = AreWaves waves
 HasLimit (asked.Trace log machine) = Unit {0}
 
-abbrev pub place_of : Target → Place
-place_of target.Output = output
-place_of target.Errors = errors
-place_of (target.File name) = in_file (string_bytes name)
+abbrev pub target_of : Target → TargetOf
+target_of target.Output = output
+target_of target.Errors = errors
+target_of (target.File name) = in_file (string_bytes name)
 
 abbrev pub note_of : FileText → Note
 note_of note = record { name = string_bytes note.name; text = note.text.items }
 
 abbrev pub said_of : Reply → Said
-said_of reply = record { ending = reply.ending; note = option_map note_of reply.note; place = place_of reply.target; text = reply.text.items }
+said_of reply = record { ending = reply.ending; note = option_map note_of reply.note; target = target_of reply.target; text = reply.text.items }

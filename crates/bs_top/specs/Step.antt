@@ -1,23 +1,23 @@
 -- The steps of a command: each gives a value to go on with, or a reason to stop.
 use Rattle.std.specs.Prelude.{◌≡◌, ◌⊎◌, ℕ, List, Option, Result, Ok, Err}
-use Rattle.bs_top.specs.declared.stop.Ending.{Ending}
-use Rattle.bs_top.specs.Place.{Note, Place}
-use Rattle.bs_top.specs.declared.stop.Stop.{Stop}
-use Rattle.bs_top.specs.declared.stop.Stop.TheVariants.{Refused, NoFile, ReadFault, Memory}
+use Rattle.bs_top.specs.declared.reply.Ending.{Ending}
+use Rattle.bs_top.specs.Targets.{Note, TargetOf}
+use Rattle.bs_top.specs.declared.stopped.Stopped.{Stopped}
+use Rattle.bs_top.specs.declared.stopped.Stopped.TheVariants.{Refused, NoFile, ReadFault, Memory}
 
 -- what a command says: how it ends, a text with its place, and maybe a note, which is written before it
 pub record Said : Type 0 where
   pub ending : Ending
   pub note : Option Note
-  pub place : Place
+  pub target : TargetOf
   pub text : List ℕ
 
 -- what a step may give
 abbrev pub Step : Type 0 → Type 1
-Step A = Result A Stop → Type 0
+Step A = Result A Stopped → Type 0
 
 -- a step that gives just this
-abbrev pub gives : {A : Type 0} → Result A Stop → Step A
+abbrev pub gives : {A : Type 0} → Result A Stopped → Step A
 gives wanted result = wanted ≡ result
 
 -- one step, and then another with what the first one gave; a reason to stop stays
@@ -30,7 +30,7 @@ abbrev pub ◌>>=◌ : {A B : Type 0} → Step A → (A → Step B) → Step B
 first >>= next = and_then first next
 
 -- this came of a step, unless reading failed or memory was wanting
-abbrev pub Told : {A B : Type 0} → (B → A) → Step A → Result B Stop → Type 0
+abbrev pub Told : {A B : Type 0} → (B → A) → Step A → Result B Stopped → Type 0
 Told view step (Ok b) = step (Ok (view b))
 Told view step (Err (Refused fault)) = step (Err (Refused fault))
 Told view step (Err NoFile) = step (Err NoFile)

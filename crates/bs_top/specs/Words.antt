@@ -1,8 +1,7 @@
 -- What the words of a command line ask for, as far as it is built (docs/output.md).
-use Rattle.std.specs.Prelude.{ℕ, ◌+◌, ◌≤◌, ◌^◌, nat_lt, List, [], ◌∷◌, length, take, drop, Option, Some, None, IfSome, option_map, option_and_then, if◌then◌else◌, codes}
-use Rattle.std.specs.Str.{bytes_eq}
+use Rattle.std.specs.Prelude.{ℕ, ◌≤◌, ◌^◌, List, [], ◌∷◌, Option, Some, None, IfSome, option_map, option_and_then}
 use Rattle.bs_words.specs.Parts.{command_in}
-use Rattle.bs_words.specs.Roles.{before_colon, number_from}
+use Rattle.bs_words.specs.Machine.{MachineWord, machine_word}
 use Rattle.bs_words.specs.declared.command.Command.{Command}
 use Rattle.bs_words.specs.declared.verb.Verb.{Verb}
 use Rattle.bs_words.specs.declared.verb.Verb.TheVariants.{Check, Model, Emulate, Predict, Run, Trace}
@@ -15,11 +14,6 @@ IsLimit limit = (1 ≤ limit) × (limit ≤ 262144)
 abbrev pub AreWaves : Option ℕ → Type 0
 AreWaves waves = IfSome waves (λ n. (1 ≤ n) × (n ≤ 2 ^ 40))
 
--- a machine: its processors and its latency, or the name of its file
-pub data MachineWord : Type 0 where
-  flat : ℕ → ℕ → MachineWord
-  file : List ℕ → MachineWord
-
 -- a command that is built, with the name of the file of its program or its log, and what else it has: a machine, the name
 -- of the log's file, the limit of sizes, the number of waves, the name of the journal's file
 pub data Asked : Type 0 where
@@ -29,22 +23,6 @@ pub data Asked : Type 0 where
   run : List ℕ → MachineWord → ℕ → Option ℕ → Asked
   predict : List ℕ → MachineWord → Option ℕ → Option (List ℕ) → Asked
   trace : List ℕ → MachineWord → Asked
-
-abbrev pub flat_with : Option ℕ → Option ℕ → Option MachineWord
-flat_with (Some processors) (Some latency) = Some (flat processors latency)
-flat_with (Some processors) None = None
-flat_with None latency = None
-
--- `P:L`
-abbrev pub flat_numbers : List ℕ → Option MachineWord
-flat_numbers text =
-    if nat_lt (before_colon text) (length text)
-    then flat_with (number_from 1 65536 (take (before_colon text) text)) (number_from 1 (2 ^ 38) (drop (before_colon text + 1) text))
-    else None
-
--- `flat:P:L`, or the name of a file
-abbrev pub machine_word : List ℕ → Option MachineWord
-machine_word word = if bytes_eq (take 5 word) (codes "flat:") then flat_numbers (drop 5 word) else Some (file word)
 
 -- a command with its limit of sizes, its waves and its journal; which of them it may have is known of its words
 abbrev pub asked_with : ℕ → Option ℕ → Option (List ℕ) → Verb → List (List ℕ) → Option Asked

@@ -1,11 +1,9 @@
 // What a command asks for, as far as it is built.
-ghost use Rattle.std.specs.Prelude.{◌≡◌, ◌+◌, ◌<◌, ◌≤◌, length, take, drop, option_map, IfSome};
-ghost use Rattle.bs_words.specs.Roles.{before_colon, number_from};
-ghost use Rattle.bs_top.specs.Seen.{HasLimit, asked_of, word_of};
-ghost use Rattle.bs_top.specs.Words.{AreWaves, IsLimit, asked_with, built as built_of, flat_numbers, machine_word as machine_word_of};
+ghost use Rattle.std.specs.Prelude.{◌≡◌, IfSome, option_map};
+ghost use Rattle.bs_top.specs.Seen.{HasLimit, asked_of};
+ghost use Rattle.bs_top.specs.Words.{AreWaves, IsLimit, asked_with, built as built_of};
 
-use bs_num::read_decimal;
-use bs_words::{Argument, Command, Verb};
+use bs_words::{Argument, Command, MachineWord, Verb, machine_word};
 
 /// A command that is built, with the name of the file of its program or its log, and what else it has: a
 /// machine, the name of the log's file, the limit of sizes, the number of waves, the name of the journal's
@@ -18,13 +16,6 @@ pub(crate) enum Asked<'a> {
     Run(&'a str, MachineWord<'a>, u64, Option<u64>),
     Predict(&'a str, MachineWord<'a>, Option<u64>, Option<&'a str>),
     Trace(&'a str, MachineWord<'a>),
-}
-
-/// A machine: its processors and its latency, or the name of its file.
-#[derive(Clone, Copy, Drop)]
-pub(crate) enum MachineWord<'a> {
-    Flat(u32, u64),
-    File(&'a str),
 }
 
 /// What the command asks for, where it is built. It takes no memory.
@@ -92,60 +83,6 @@ fn with_names<'a>(options: Options<'a>, verb: Verb, names: &'a [Argument]) -> Op
             let machine = machine_word(machine.text())?;
             Some(Asked::Trace(log.text(), machine))
         }
-        _ => None,
-    }
-}
-
-// `flat:P:L`, or the name of a file.
-fn machine_word(word: &str) -> Option<MachineWord<'_>>
-    ensures { option_map word_of result ≡ machine_word_of word.now }
-{
-    match word.as_bytes() {
-        [b'f', b'l', b'a', b't', b':', numbers @ ..] => read_numbers(numbers),
-        _ => Some(MachineWord::File(word)),
-    }
-}
-
-// `P:L`
-fn read_numbers<'a>(text: &[u8]) -> Option<MachineWord<'a>>
-    ensures { option_map word_of result ≡ flat_numbers text.now }
-{
-    let at = colon(text);
-    if at >= text.len() {
-        return None;
-    }
-    let processors = number(front(text, at), 65_536)?;
-    let latency = number(behind(text, at), 1 << 38)?;
-    Some(MachineWord::Flat(processors as u32, latency))
-}
-
-fn colon(text: &[u8]) -> usize
-    ensures value { result ≡ before_colon text.now }
-{
-    text.iter().take_while(|byte| **byte != b':').count()
-}
-
-fn front(text: &[u8], at: usize) -> &[u8]
-    requires { at ≤ length text.now }
-    ensures { result.now ≡ take at text.now }
-{
-    &text[..at]
-}
-
-fn behind(text: &[u8], at: usize) -> &[u8]
-    requires { at < length text.now }
-    ensures { result.now ≡ drop (at + 1) text.now }
-{
-    &text[at + 1..]
-}
-
-// A plain decimal from 1 to `most`.
-fn number(text: &[u8], most: u64) -> Option<u64>
-    ensures value { result ≡ number_from 1 most text.now }
-    ensures most { IfSome result (λ n. n ≤ most) }
-{
-    match read_decimal(text, most) {
-        Ok(number) if number >= 1 => Some(number),
         _ => None,
     }
 }

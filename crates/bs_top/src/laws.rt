@@ -7,15 +7,18 @@ ghost use Rattle.bs_log.specs.declared.log.Log.{Log};
 ghost use Rattle.bs_machine.specs.Machine.{MachineOf};
 ghost use Rattle.bs_semantics.specs.Verdict.{IsVerdict, clean};
 ghost use Rattle.bs_tree.specs.declared.tree.Program.{Program};
-ghost use Rattle.bs_top.specs.Answer.{Answer, IsAnswer, answer_of, printed};
+ghost use Rattle.bs_top.specs.Answer.{Answer, IsAnswer, answer_of};
+ghost use Rattle.bs_top.specs.commands.Check.{printed};
 ghost use Rattle.bs_top.specs.Complete.{CanEmulate, CanForetell, CanPredict, CanRun, Ends, HasProgram, IsAmple, IsAmpleFor, IsJournaled, IsPredicted, IsReported, IsTraced, logged_in};
+ghost use Rattle.bs_top.specs.Known.{Known, SomeLaws};
 ghost use Rattle.bs_top.specs.Performs.{Answers};
-ghost use Rattle.bs_top.specs.Words.{Asked, IsLimit, MachineWord, check, emulate, model, predict, run, trace};
+ghost use Rattle.bs_top.specs.Words.{Asked, IsLimit, asked_by, check, emulate, model, predict, run, trace};
+ghost use Rattle.bs_words.specs.Machine.{MachineWord};
 ghost use Rattle.bs_top.specs.declared.status.Status.{Status};
 
-/// For given contents of the files a command has one answer.
-pub fn one_answer()
-    ensures { (files : Files) (asked : Option Asked) (a b : Answer) → IsAnswer files asked a → IsAnswer files asked b → a ≡ b }
+// The laws of the crates below that those here rest on.
+fn known()
+    ensures { Known }
 {
     bs_parse::text_laws::one_program();
     bs_parse::text_laws::one_fault();
@@ -32,6 +35,37 @@ pub fn one_answer()
     bs_settle::laws::one_settling();
     bs_settle::laws::one_noting();
     bs_serial::laws::verdict_times();
+}
+
+// And the laws by which there is something.
+fn some_laws()
+    ensures { SomeLaws }
+{
+    bs_parse::text_laws::some_answer();
+    bs_logread::some_answer();
+    bs_semantics::laws::verdict();
+    bs_semantics::laws::some_serial();
+    bs_serial::laws::verdict_times();
+    bs_times::laws::uniqueness();
+    bs_settle::laws::some_answer();
+    bs_settle::laws::one_noting();
+    bs_machine::laws::fitted_machines();
+}
+
+/// For given contents of the files a command has one answer.
+pub fn one_answer()
+    ensures { (files : Files) (asked : Option Asked) (a b : Answer) → IsAnswer files asked a → IsAnswer files asked b → a ≡ b }
+{
+    known();
+}
+
+/// For all words, and for all contents of the files, there is an answer. So there is just one, by the law
+/// `one_answer`.
+pub fn some_answer()
+    ensures { (files : Files) (words : List (List ℕ)) → (a : Answer) × IsAnswer files (asked_by words) a }
+{
+    known();
+    some_laws();
 }
 
 /// **Completeness.** Where the file of a program is there, of no more bytes than a file may have, and
@@ -70,21 +104,7 @@ pub fn complete()
     ensures journals { (files : Files) (name into : List ℕ) (word : MachineWord) (waves : Option ℕ) (kept : Log) (m : MachineOf) (old new : Outside) (s : Status) → CanPredict files name word kept m → IsAmple waves kept → Answers files (Some (predict name word waves (Some into))) old new s → Ends (IsJournaled waves into kept m) old new s }
     ensures traces { (files : Files) (name : List ℕ) (word : MachineWord) (kept : Log) (m : MachineOf) (old new : Outside) (s : Status) → CanPredict files name word kept m → Answers files (Some (trace name word)) old new s → Ends (IsTraced kept m) old new s }
 {
-    bs_parse::text_laws::one_program();
-    bs_parse::text_laws::one_fault();
-    bs_parse::text_laws::no_both();
-    bs_semantics::laws::verdict();
-    bs_semantics::laws::one_serial();
-    bs_logread::one_text();
-    bs_logread::one_fault();
-    bs_logtext::texts_are_small();
-    bs_times::laws::timely_machines();
-    bs_times::laws::causal_nets();
-    bs_times::laws::uniqueness();
-    bs_times::laws::one_outcome();
-    bs_settle::laws::one_settling();
-    bs_settle::laws::one_noting();
-    bs_serial::laws::verdict_times();
+    known();
 }
 
 /// **The headline.** What `run` answers is what `model` answers, whatever the files hold (`run`); and so it
@@ -112,20 +132,7 @@ pub fn headline()
         CanRun files name word limit p m → IsVerdict p limit (clean histories) → CanPredict later into other (log_of histories (length p.entries)) m → IsAmple waves (log_of histories (length p.entries)) →
         IsAnswer files (Some (model name word limit)) a → IsAnswer later (Some (predict into other waves None)) b → b ≡ a }
 {
-    bs_parse::text_laws::one_program();
-    bs_parse::text_laws::one_fault();
-    bs_parse::text_laws::no_both();
-    bs_semantics::laws::verdict();
-    bs_semantics::laws::one_serial();
-    bs_logread::one_text();
-    bs_logread::one_fault();
-    bs_logtext::texts_are_small();
-    bs_times::laws::timely_machines();
-    bs_times::laws::causal_nets();
-    bs_times::laws::uniqueness();
-    bs_times::laws::one_outcome();
-    bs_settle::laws::one_settling();
-    bs_settle::laws::one_noting();
+    known();
     bs_serial::laws::verdict_times();
     bs_range::laws::clean_logs_are_valid();
 }

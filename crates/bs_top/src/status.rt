@@ -1,6 +1,11 @@
 // How a command ends.
 ghost use Rattle.std.specs.Prelude.{◌≡◌};
+ghost use Rattle.bs_top.specs.Answer.{refused_by, status_at, status_of as status_after};
 ghost use Rattle.bs_top.specs.Codes.{code_of};
+
+use crate::reply::Ending;
+use bs_log::End;
+use bs_report::Fault;
 
 /// How a command ends, each with its exit code.
 #[derive(Clone, Copy, Debug, PartialEq, Eq, Drop)]
@@ -62,5 +67,42 @@ impl Status {
             Status::NoFile => 22,
             Status::Memory => 30,
         }
+    }
+}
+
+/// The status of a command that has something to say.
+pub(crate) fn status_of(ending: Ending) -> Status
+    ensures { result ≡ status_after ending }
+{
+    match ending {
+        Ending::Run(end) => end_status(end),
+        Ending::Spent => Status::BudgetSpent,
+    }
+}
+
+fn end_status(end: End) -> Status
+    ensures { result ≡ status_at end }
+{
+    match end {
+        End::Settled => Status::Settled,
+        End::Deadlock => Status::Deadlock,
+        End::Trapped => Status::Trapped,
+    }
+}
+
+/// The status of a refusal.
+pub(crate) fn refused_status(fault: &Fault) -> Status
+    ensures { result ≡ refused_by fault.now }
+{
+    match fault {
+        Fault::BadWords => Status::BadWords,
+        Fault::BadProgram(_) => Status::BadProgram,
+        Fault::CheckFailed(_) => Status::CheckFailed,
+        Fault::BadMachine(_) | Fault::BadPlace(_) => Status::BadMachine,
+        Fault::BadLog(_) => Status::BadLog,
+        Fault::Ambiguous(_) => Status::AmbiguousMatch,
+        Fault::TooLong(_) => Status::TooLong,
+        Fault::BudgetSpent(_) => Status::BudgetSpent,
+        Fault::TooBig(_) => Status::TooBig,
     }
 }

@@ -1,7 +1,8 @@
 -- The command that the texts of a plain list are.
 use Rattle.std.specs.Prelude.{ℕ, ◌==◌, ◌^◌, Bool, not, ◌&&◌, ◌||◌, Option, Some, None, is_some, option_map, option_and_then, if◌then◌else◌}
 use Rattle.bs_words.specs.Plain.{Text}
-use Rattle.bs_words.specs.Roles.{number_from, are_in_roles}
+use Rattle.bs_words.specs.Numbers.{number_from}
+use Rattle.bs_words.specs.Roles.{are_in_roles}
 use Rattle.bs_words.specs.Texts.{Texts}
 use Rattle.bs_words.specs.Verbs.{verb_of, roles_of, has}
 use Rattle.bs_words.specs.declared.command.Command.{Command}

@@ -3,6 +3,8 @@ pub mod Plain
 pub mod Seen
 pub mod Texts
 pub mod Verbs
+pub mod Numbers
+pub mod Machine
 pub mod Roles
 pub mod Command
 pub mod Parts

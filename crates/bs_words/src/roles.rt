@@ -1,7 +1,9 @@
 // What a name of a command stands for, and which words may.
-ghost use Rattle.std.specs.Prelude.{◌≡◌, ◌≤◌, IfSome, length, take, drop, map};
-ghost use Rattle.bs_words.specs.Roles.{number_from, before_colon, is_flat, is_machine, is_in_role, are_in_roles};
+ghost use Rattle.std.specs.Prelude.{◌≡◌, ◌≤◌, IfSome, map};
+ghost use Rattle.bs_words.specs.Numbers.{number_from};
+ghost use Rattle.bs_words.specs.Roles.{are_in_roles, is_in_role};
 
+use crate::machine::machine_word;
 use bs_num::read_decimal;
 
 /// What a name of a command stands for.
@@ -36,7 +38,7 @@ fn in_role(role: Role, name: &str) -> bool
 {
     match role {
         Role::File => true,
-        Role::Machine => can_be_machine(name),
+        Role::Machine => machine_word(name).is_some(),
         Role::Workload => name == "ring" || name == "stencil" || name == "tree",
         Role::Size => number(name.as_bytes(), 1, 512).is_some(),
         Role::Seed => number(name.as_bytes(), 0, 999_999).is_some(),
@@ -52,45 +54,4 @@ pub(crate) fn number(text: &[u8], low: u64, high: u64) -> Option<u64>
         Ok(n) if low <= n => Some(n),
         _ => None,
     }
-}
-
-fn can_be_machine(word: &str) -> bool
-    ensures { result ≡ is_machine word.now }
-{
-    match word.as_bytes() {
-        [b'f', b'l', b'a', b't', b':', rest @ ..] => can_be_flat(rest),
-        _ => true,
-    }
-}
-
-fn can_be_flat(text: &[u8]) -> bool
-    ensures { result ≡ is_flat text.now }
-{
-    let at = colon(text);
-    if at >= text.len() {
-        return false;
-    }
-    number(front(text, at), 1, 65536).is_some()
-        && number(back(text, at + 1), 1, 274_877_906_944).is_some()
-}
-
-// The place of the first colon, or the length where there is none.
-fn colon(text: &[u8]) -> usize
-    ensures { result ≡ before_colon text.now }
-{
-    text.iter().take_while(|byte| **byte != b':').count()
-}
-
-fn front(text: &[u8], at: usize) -> &[u8]
-    requires { at ≤ length text.now }
-    ensures { result.now ≡ take at text.now }
-{
-    &text[..at]
-}
-
-fn back(text: &[u8], at: usize) -> &[u8]
-    requires { at ≤ length text.now }
-    ensures { result.now ≡ drop at text.now }
-{
-    &text[at..]
 }

@@ -1,6 +1,6 @@
 use Rattle.std.proofs.Common.{◌==◌, ap}
 use Rattle.bs_schedule.proofs.Places.{place_mem}
-use Rattle.bs_line.specs.Layout.{net_on}
+use Rattle.bs_rows.specs.Rows.{net_on}
 use Rattle.bs_line.proofs.Kept.{kept_more}
 use Rattle.bs_line.proofs.choosing.coming.Goals as goal
 

@@ -1,5 +1,5 @@
 use Rattle.std.proofs.Common.{◌≡◌, ◌==◌, ◌++◌, drop}
-use Rattle.bs_line.specs.Layout.{net_on}
+use Rattle.bs_rows.specs.Rows.{net_on}
 use Rattle.bs_line.specs.Making.{kept}
 use Rattle.bs_line.proofs.choosing.going.Given as goal
 

@@ -1,5 +1,5 @@
 use Rattle.std.proofs.Common.{arith}
-use Rattle.bs_line.specs.Layout.{net_on}
+use Rattle.bs_rows.specs.Rows.{net_on}
 use Rattle.bs_line.proofs.Chosen.{those_all, those_next}
 use Rattle.bs_line.proofs.choosing.rows_on.Goals as goal
 

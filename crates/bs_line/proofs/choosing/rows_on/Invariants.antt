@@ -1,6 +1,6 @@
 use Rattle.std.proofs.Common.{◌≤◌}
 use Rattle.bs_times.specs.Times.{IsOn}
-use Rattle.bs_line.specs.Layout.{net_on}
+use Rattle.bs_rows.specs.Rows.{net_on}
 use Rattle.bs_line.specs.Places.{AreThose}
 use Rattle.bs_line.proofs.choosing.rows_on.Given as goal
 

@@ -1,5 +1,6 @@
 use Rattle.std.proofs.Common.{◌≡◌, ◌++◌, [], ◌∷◌, drop, map}
-use Rattle.bs_line.specs.Layout.{local_causes, net_on}
+use Rattle.bs_rows.specs.Rows.{net_on}
+use Rattle.bs_line.specs.Layout.{local_causes}
 use Rattle.bs_line.proofs.making.causes.Given as goal
 
 abbrev pub invariant-loop-row : goal.invariant-loop-row

@@ -1,5 +1,5 @@
 use Rattle.std.proofs.Common.{◌≡◌, ◌∙◌, get_or, subst, ap}
-use Rattle.bs_log.specs.ClosedTest.{Mem}
+use Rattle.bs_log.specs.Lists.{Mem}
 use Rattle.bs_schedule.proofs.Places.{place_mem}
 use Rattle.bs_times.specs.Net.{row_of}
 use Rattle.bs_line.proofs.Parts.{after_on, row_there}

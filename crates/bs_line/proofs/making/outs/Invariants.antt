@@ -1,6 +1,7 @@
 use Rattle.std.proofs.Common.{◌≡◌, ◌++◌, drop, map}
 use Rattle.bs_line.specs.Making.{mails_of}
-use Rattle.bs_line.specs.Layout.{net_on, out_of}
+use Rattle.bs_rows.specs.Rows.{net_on}
+use Rattle.bs_line.specs.Layout.{out_of}
 use Rattle.bs_line.proofs.making.outs.Given as goal
 
 abbrev pub invariant-loop-estimate : goal.invariant-loop-estimate

@@ -1,9 +1,9 @@
 use Rattle.std.proofs.Common.{◌≡◌, ◌∙◌, get_or, subst, ap}
-use Rattle.bs_log.specs.ClosedTest.{Mem}
+use Rattle.bs_log.specs.Lists.{Mem}
 use Rattle.bs_log.specs.declared.log.MailRef.{MailRef}
 use Rattle.bs_schedule.proofs.Places.{place_mem}
 use Rattle.bs_times.specs.Net.{row_of}
-use Rattle.bs_line.specs.Layout.{net_on}
+use Rattle.bs_rows.specs.Rows.{net_on}
 use Rattle.bs_line.specs.Making.{AreRowsOn}
 use Rattle.bs_line.proofs.Parts.{mail_on, row_there}
 use Rattle.bs_line.proofs.making.slots_of.Goals as goal

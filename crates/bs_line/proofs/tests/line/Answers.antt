@@ -1,6 +1,6 @@
 use Rattle.std.proofs.Common.{◌≡◌, inl, inr, ◌∙◌, ℕ, zero, suc, length, replicate, ap, subst, arith, rules}
 use Rattle.std.proofs.lemmas.List.{length-replicate}
-use Rattle.bs_log.specs.ClosedTest.{Mem}
+use Rattle.bs_log.specs.Lists.{Mem}
 use Rattle.bs_num.specs.declared.ticks.Tick.{Tick}
 use Rattle.bs_times.specs.Machine.{machine_of}
 use Rattle.bs_line.proofs.tests.line.Goals as goal

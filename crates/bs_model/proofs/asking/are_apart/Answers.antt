@@ -2,7 +2,7 @@ use Rattle.std.proofs.Common.{◌≡◌, ◌∙◌, true, false, refl, sym, ap, 
 use Rattle.std.specs.BTreeMap.{is_at}
 use Rattle.std.specs.Map as entry
 use Rattle.bs_log.specs.declared.history.Key.{Key}
-use Rattle.bs_match.specs.Mail.{key_cmp}
+use Rattle.bs_log.specs.Messages.{key_cmp}
 use Rattle.bs_rounds.proofs.Items.{next_item, none_left, false_is}
 use Rattle.bs_rounds.proofs.Asked.{has, has_more, Unlisted, without, listed}
 use Rattle.bs_model.proofs.asking.are_apart.Goals as goal

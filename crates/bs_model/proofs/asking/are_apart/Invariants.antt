@@ -1,5 +1,6 @@
 use Rattle.std.proofs.Common.{drop}
-use Rattle.bs_semantics.specs.Rounds.{Apart, one_asked}
+use Rattle.bs_log.specs.Lists.{Apart}
+use Rattle.bs_log.specs.Messages.{one_asked}
 use Rattle.bs_rounds.proofs.Asked.{has, Unlisted}
 use Rattle.bs_model.proofs.asking.are_apart.Given as goal
 

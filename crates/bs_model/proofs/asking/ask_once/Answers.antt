@@ -1,7 +1,8 @@
 use Rattle.std.proofs.Common.{sym, subst, arith}
 use Rattle.std.proofs.lemmas.Result.{err_from_is_err_and}
 use Rattle.bs_rounds.proofs.Items.{next_item, none_left}
-use Rattle.bs_semantics.specs.Rounds.{Apart, one_asked}
+use Rattle.bs_log.specs.Lists.{Apart}
+use Rattle.bs_log.specs.Messages.{one_asked}
 use Rattle.bs_model.specs.Asking.{AskOnce}
 use Rattle.bs_model.proofs.Denying.{denies_also}
 use Rattle.bs_model.proofs.asking.ask_once.Goals as goal

@@ -1,7 +1,7 @@
 use Rattle.std.proofs.Common.{◌≡◌, ◌≤◌, [], ◌∷◌, map, length, refl, sym, subst, ◌∙◌, arith}
 use Rattle.bs_log.specs.Collected.{traps_from, waits_from}
+use Rattle.bs_log.specs.Reportable.{IsReportable}
 use Rattle.bs_log.specs.declared.outcome.Outcome.{Outcome}
-use Rattle.bs_report.specs.Report.{IsReportable}
 use Rattle.bs_semantics.specs.Serial.{IsSerial, timed}
 use Rattle.bs_model.specs.Book.{keyed}
 use Rattle.bs_times.specs.Machine.{machine_of}

@@ -1,7 +1,7 @@
 use Rattle.std.proofs.Common.{◌≡◌, ap, subst, sym, take, arith, length-take}
 use Rattle.std.proofs.lemmas.List.Elements.{All-take}
 use Rattle.bs_report.specs.Loads.{load_on}
-use Rattle.bs_report.specs.Report.{IsTimed}
+use Rattle.bs_log.specs.Reportable.{IsTimed}
 use Rattle.bs_report.proofs.LoadLemmas.{blocks_bound, busy_bound, loads_more, map_before}
 use Rattle.bs_report.proofs.processors.loads.Goals as goal
 

@@ -1,5 +1,5 @@
 use Rattle.std.proofs.Common.{◌≡◌, ◌+◌, ◌∙◌, suc, length, map, ap, sym, arith}
-use Rattle.bs_line.specs.Layout.{net_on}
+use Rattle.bs_rows.specs.Rows.{net_on}
 use Rattle.bs_settle.specs.Timed.{numbers}
 use Rattle.bs_report.specs.Headed.{by_processor}
 use Rattle.bs_report.specs.Trace.{start_in, traced, traced_rows}

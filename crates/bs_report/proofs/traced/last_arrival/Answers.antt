@@ -1,5 +1,5 @@
 use Rattle.std.proofs.Common.{◌≡◌, ◌∙◌, length, slice_index_or, subst, sym, ap, arith}
-use Rattle.bs_line.specs.Making.{IsSend}
+use Rattle.bs_rows.specs.Rows.{IsSend}
 use Rattle.bs_times.specs.Net.{row_of}
 use Rattle.bs_report.proofs.Causes.{mail_there}
 use Rattle.bs_report.proofs.traced.last_arrival.Goals as goal

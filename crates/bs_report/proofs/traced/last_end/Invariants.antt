@@ -1,5 +1,5 @@
 use Rattle.std.proofs.Common.{◌≡◌, max, map, drop}
-use Rattle.bs_line.specs.Layout.{net_on}
+use Rattle.bs_rows.specs.Rows.{net_on}
 use Rattle.bs_settle.specs.Timed.{numbers}
 use Rattle.bs_times.specs.Times.{end_of, greatest}
 use Rattle.bs_report.specs.Trace.{start_in}

@@ -1,5 +1,5 @@
 use Rattle.std.proofs.Common.{◌≡◌, ◌++◌, ◌∙◌, None, map, length, string_bytes, ap}
-use Rattle.bs_line.specs.Layout.{net_on}
+use Rattle.bs_rows.specs.Rows.{net_on}
 use Rattle.bs_settle.specs.Timed.{numbers}
 use Rattle.bs_times.specs.Machine.{machine_of}
 use Rattle.bs_report.specs.Headed.{headed}

@@ -2,8 +2,9 @@ use Rattle.std.proofs.Common.{◌≡◌, ◌∙◌, ◌<◌, true, sym, ap, subs
 use Rattle.std.proofs.lemmas.List.{get_or_default}
 use Rattle.std.proofs.lemmas.Result.{err_from_is_err_and}
 use Rattle.bs_log.specs.declared.history.Asked.{Asked}
-use Rattle.bs_semantics.specs.Rounds.{Apart, one_asked}
-use Rattle.bs_rounds.specs.Places.{no_history, history_at}
+use Rattle.bs_log.specs.Lists.{Apart}
+use Rattle.bs_log.specs.Messages.{one_asked}
+use Rattle.bs_log.specs.Histories.{no_history, history_at}
 use Rattle.bs_rounds.specs.Posting.{flag}
 use Rattle.bs_rounds.proofs.Items.{false_is}
 use Rattle.bs_rounds.proofs.Asked.{one_more, asks_twice}

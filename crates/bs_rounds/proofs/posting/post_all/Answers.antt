@@ -1,7 +1,7 @@
 use Rattle.std.proofs.Common.{◌≡◌, ◌<◌, ◌≤◌, [], ◌∙◌, sym, ap, subst, drop, ◌+◌, length, arith}
 use Rattle.std.proofs.lemmas.Result.{err_from_is_err_and}
-use Rattle.bs_semantics.specs.Rounds.{sends_of}
-use Rattle.bs_rounds.specs.Posting.{AreFor, flag, held, sent_by}
+use Rattle.bs_log.specs.Messages.{sends_of, AreFor}
+use Rattle.bs_rounds.specs.Posting.{flag, held, sent_by}
 use Rattle.bs_rounds.proofs.Items.{next_marked, next_unmarked, none_left}
 use Rattle.bs_rounds.proofs.Posts.{follows_on, follows_to, follows_end, first_for, rest_for, same_for}
 use Rattle.bs_rounds.proofs.posting.post_all.Goals.{then-fresh-chare+in_ok-post_blocks, else-fresh-chare}

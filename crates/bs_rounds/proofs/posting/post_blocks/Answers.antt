@@ -1,7 +1,7 @@
 use Rattle.std.proofs.Common.{◌≡◌, [], ◌∙◌, sym, ap, subst, drop, ◌+◌, length, arith}
 use Rattle.std.proofs.lemmas.Result.{err_from_is_err_and}
-use Rattle.bs_semantics.specs.Rounds.{sends_of}
-use Rattle.bs_rounds.specs.Posting.{AreFor, flag, held}
+use Rattle.bs_log.specs.Messages.{sends_of, AreFor}
+use Rattle.bs_rounds.specs.Posting.{flag, held}
 use Rattle.bs_rounds.proofs.Items.{next_block, none_left}
 use Rattle.bs_rounds.proofs.Posts.{follows_on, follows_to, follows_end, first_for, rest_for, same_for}
 use Rattle.bs_rounds.proofs.posting.post_blocks.Goals as goal

@@ -1,8 +1,8 @@
 use Rattle.std.proofs.Common.{◌≡◌, ℕ, Bool, Result, length, drop}
 use Rattle.bs_semantics.specs.Run.{Lookup}
-use Rattle.bs_semantics.specs.Rounds.{sends_of}
+use Rattle.bs_log.specs.Messages.{sends_of, AreFor}
 use Rattle.bs_rounds.specs.declared.stop.Stop.{Stop}
-use Rattle.bs_rounds.specs.Posting.{AreFor, IsPosted, flag, held}
+use Rattle.bs_rounds.specs.Posting.{IsPosted, flag, held}
 use Rattle.bs_rounds.proofs.posting.post_blocks.Given as goal
 
 abbrev pub invariant-loop-block : goal.invariant-loop-block

@@ -1,6 +1,7 @@
 use Rattle.std.proofs.Common.{◌≡◌, ◌∷◌, [], ◌∙◌, inl, refl, sym, subst, drop, ◌+◌, length, arith}
-use Rattle.bs_semantics.specs.Rounds.{Mem}
-use Rattle.bs_rounds.specs.Posting.{AreFor, flag, held}
+use Rattle.bs_log.specs.Lists.{Mem}
+use Rattle.bs_log.specs.Messages.{AreFor}
+use Rattle.bs_rounds.specs.Posting.{flag, held}
 use Rattle.bs_rounds.proofs.Items.{next_item, none_left}
 use Rattle.bs_rounds.proofs.Posts.{follows_on, follows_to, follows_end, first_for, rest_for, same_for}
 use Rattle.bs_rounds.proofs.posting.post_messages.Goals as goal

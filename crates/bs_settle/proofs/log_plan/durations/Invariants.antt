@@ -1,5 +1,5 @@
 use Rattle.std.proofs.Common.{◌≡◌}
-use Rattle.bs_line.specs.Layout.{net_on}
+use Rattle.bs_rows.specs.Rows.{net_on}
 use Rattle.bs_settle.specs.Planned.{by_row}
 use Rattle.bs_settle.proofs.log_plan.durations.Given as goal
 

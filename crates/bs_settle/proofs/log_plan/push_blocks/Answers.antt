@@ -1,5 +1,5 @@
 use Rattle.std.proofs.Common.{◌≡◌, ◌∙◌, length, slice_index_or, ap, arith}
-use Rattle.bs_line.proofs.Numbered.{block_found}
+use Rattle.bs_rows.proofs.Numbered.{block_found}
 use Rattle.bs_settle.proofs.log_plan.push_blocks.Goals as goal
 use Rattle.bs_times.specs.Net.{row_of}
 

@@ -1,6 +1,6 @@
 use Rattle.std.proofs.Common.{◌≡◌, ◌∙◌, length, slice_index_or, subst, sym, ap, arith}
-use Rattle.bs_line.specs.Making.{IsSend}
-use Rattle.bs_line.proofs.Numbered.{mail_found}
+use Rattle.bs_rows.specs.Rows.{IsSend}
+use Rattle.bs_rows.proofs.Numbered.{mail_found}
 use Rattle.bs_settle.proofs.log_plan.push_messages.Goals as goal
 use Rattle.bs_times.specs.Net.{row_of}
 

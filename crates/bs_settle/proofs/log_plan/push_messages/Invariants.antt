@@ -1,6 +1,6 @@
 use Rattle.std.proofs.Common.{◌≡◌, ◌++◌, drop, map}
 use Rattle.bs_schedule.specs.Whole.{mail_cause}
-use Rattle.bs_line.specs.Layout.{net_on}
+use Rattle.bs_rows.specs.Rows.{net_on}
 use Rattle.bs_settle.proofs.log_plan.push_messages.Given as goal
 
 abbrev pub invariant-loop-cause : goal.invariant-loop-cause

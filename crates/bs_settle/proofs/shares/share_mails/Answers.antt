@@ -1,6 +1,6 @@
 use Rattle.std.proofs.Common.{◌≡◌, ◌∙◌, length, subst, arith}
 use Rattle.bs_schedule.proofs.Places.{place_mem}
-use Rattle.bs_line.specs.Layout.{net_on}
+use Rattle.bs_rows.specs.Rows.{net_on}
 use Rattle.bs_settle.specs.Shares.{AreShares}
 use Rattle.bs_settle.proofs.Added.{mail_shared}
 use Rattle.bs_settle.proofs.shares.share_mails.Goals as goal

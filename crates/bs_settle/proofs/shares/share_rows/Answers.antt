@@ -1,5 +1,5 @@
 use Rattle.std.proofs.Common.{◌≡◌, ◌∙◌, length, subst, arith}
-use Rattle.bs_line.specs.Layout.{net_on}
+use Rattle.bs_rows.specs.Rows.{net_on}
 use Rattle.bs_settle.specs.Shares.{AreShares}
 use Rattle.bs_settle.proofs.Added.{row_shared}
 use Rattle.bs_settle.proofs.shares.share_rows.Goals as goal

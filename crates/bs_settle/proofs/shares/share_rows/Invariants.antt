@@ -1,7 +1,7 @@
 use Rattle.std.proofs.Common.{◌≡◌, ℕ, List, length}
 use Rattle.bs_log.specs.declared.log.MailRef.{MailRef}
 use Rattle.bs_num.specs.declared.ticks.Tick.{Tick}
-use Rattle.bs_line.specs.Layout.{net_on}
+use Rattle.bs_rows.specs.Rows.{net_on}
 use Rattle.bs_settle.specs.Shares.{AreShares}
 use Rattle.bs_settle.proofs.shares.share_rows.Given as goal
 

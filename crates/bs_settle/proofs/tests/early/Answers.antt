@@ -1,5 +1,5 @@
 use Rattle.std.proofs.Common.{◌<◌, ◌^◌, subst, arith}
-use Rattle.bs_log.specs.ClosedTest.{Mem}
+use Rattle.bs_log.specs.Lists.{Mem}
 use Rattle.bs_settle.proofs.Early.{early_more}
 use Rattle.bs_settle.proofs.tests.early.Goals as goal
 

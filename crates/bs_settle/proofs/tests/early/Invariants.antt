@@ -1,5 +1,5 @@
 use Rattle.std.proofs.Common.{◌<◌, ◌^◌}
-use Rattle.bs_log.specs.ClosedTest.{Mem}
+use Rattle.bs_log.specs.Lists.{Mem}
 use Rattle.bs_num.specs.declared.ticks.Tick.{Tick}
 use Rattle.bs_settle.proofs.tests.early.Given as goal
 

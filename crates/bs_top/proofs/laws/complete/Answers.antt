@@ -1,48 +1,31 @@
 use Rattle.std.proofs.Common.{◌≡◌, None, Ok, Some}
-use Rattle.bs_top.specs.Answer.{answer_of, printed}
+use Rattle.bs_top.specs.Answer.{answer_of}
+use Rattle.bs_top.specs.commands.Check.{printed}
 use Rattle.bs_top.specs.Complete.{IsJournaled, IsPredicted, IsReported, IsTraced, logged_in}
 use Rattle.bs_top.specs.Words.{check, model, emulate, run, predict, trace}
 use Rattle.bs_top.proofs.Completing.{checks, emulates, ends, journals, predicts, reports, reports_run, traces}
-use Rattle.bs_top.proofs.OneLog.{LogLaws}
 use Rattle.bs_top.proofs.laws.complete.Goals as goal
 
--- what is known of logs
-logs : goal.After-verdict_times → LogLaws
-logs c = record {
-  text = c.one_text.ensures;
-  fault = c.one_fault-2.ensures.one;
-  none = c.one_fault-2.ensures.none;
-  small = c.texts_are_small.ensures;
-  timely = c.timely_machines.ensures;
-  causal = c.causal_nets.ensures;
-  run_causal = c.verdict_times.ensures.causal;
-  table = c.uniqueness.ensures.one_of;
-  spent = c.one_settling.ensures.spent;
-  either = c.one_settling.ensures.either;
-  noting = c.one_noting.ensures.one;
-  outcome = c.one_outcome.ensures;
-}
-
 pub returns-clause-check : goal.returns-clause-check
-returns-clause-check c files name p a = checks files c.one_program.ensures c.one_fault.ensures c.no_both.ensures c.verdict.ensures.one c.one_serial.ensures (logs c) name p a
+returns-clause-check c files name p a = checks files c.known.ensures name p a
 
 pub returns-clause-model : goal.returns-clause-model
-returns-clause-model c files name word limit p m a = reports files c.one_program.ensures c.one_fault.ensures c.no_both.ensures c.verdict.ensures.one c.one_serial.ensures (logs c) name word limit p m a
+returns-clause-model c files name word limit p m a = reports files c.known.ensures name word limit p m a
 
 pub returns-clause-run : goal.returns-clause-run
-returns-clause-run c files name word limit waves p m a = reports_run files c.one_program.ensures c.one_fault.ensures c.no_both.ensures c.verdict.ensures.one c.one_serial.ensures (logs c) name word limit waves p m a
+returns-clause-run c files name word limit waves p m a = reports_run files c.known.ensures name word limit waves p m a
 
 pub returns-clause-emulate : goal.returns-clause-emulate
-returns-clause-emulate c files name into limit p histories a = emulates files c.one_program.ensures c.one_fault.ensures c.no_both.ensures c.verdict.ensures.one c.one_serial.ensures (logs c) name into limit p histories a
+returns-clause-emulate c files name into limit p histories a = emulates files c.known.ensures name into limit p histories a
 
 pub returns-clause-predict : goal.returns-clause-predict
-returns-clause-predict c files name word waves kept m a = predicts files c.one_program.ensures c.one_fault.ensures c.no_both.ensures c.verdict.ensures.one c.one_serial.ensures (logs c) name word waves kept m a
+returns-clause-predict c files name word waves kept m a = predicts files c.known.ensures name word waves kept m a
 
 pub returns-clause-journal : goal.returns-clause-journal
-returns-clause-journal c files name into word waves kept m a = journals files c.one_program.ensures c.one_fault.ensures c.no_both.ensures c.verdict.ensures.one c.one_serial.ensures (logs c) name into word waves kept m a
+returns-clause-journal c files name into word waves kept m a = journals files c.known.ensures name into word waves kept m a
 
 pub returns-clause-trace : goal.returns-clause-trace
-returns-clause-trace c files name word kept m a = traces files c.one_program.ensures c.one_fault.ensures c.no_both.ensures c.verdict.ensures.one c.one_serial.ensures (logs c) name word kept m a
+returns-clause-trace c files name word kept m a = traces files c.known.ensures name word kept m a
 
 pub returns-clause-checks : goal.returns-clause-checks
 returns-clause-checks c files name p old new s has =

@@ -3,6 +3,7 @@ use Rattle.bs_top.specs.Seen.{said_of}
 use Rattle.bs_top.specs.Words.{asked_by}
 use Rattle.bs_top.proofs.Stages.{each}
 use Rattle.bs_top.proofs.Causing.{told_cause}
+use Rattle.bs_top.proofs.Counting.{never_fall, only_read, refuses_count, tells_count}
 use Rattle.bs_top.proofs.Told.{said_reply, said_refusal, said_nothing}
 use Rattle.bs_top.proofs.perform.perform_alone.Goals as goal
 
@@ -10,7 +11,7 @@ pub returns-in-Ok-clause-cause : goal.returns-in-Ok-clause-cause
 returns-in-Ok-clause-cause g c =
     let said = said_of c.in-Ok.reply in
     told_cause (asked_by (map string_bytes c.args.words.now)) (g.D.Desk.world c.args.desk.now) (g.D.Desk.world c.tell.new.desk)
-    (g.D.Desk.world c.reply.new.desk) c.in-Ok.ensures.cause.0 c.in-Ok.ensures.cause.1 c.in-Ok.ensures.reading said.ending said.note said.place said.text
+    (g.D.Desk.world c.reply.new.desk) c.in-Ok.ensures.cause.0 c.in-Ok.ensures.cause.1 c.in-Ok.ensures.reading said.ending said.note said.target said.text
     c.tell.result c.written_status.result c.status_of.result c.tell.ensures c.status_of.ensures c.written_status.ensures
 
 pub returns-in-Ok-clause-told : goal.returns-in-Ok-clause-told
@@ -35,3 +36,30 @@ returns-in-Err-NoFile-clause-told g c =
     let asked = asked_by (map string_bytes c.args.words.now) in
     each old.files old.files _ _ refl (λ files h. said_nothing files asked old (g.D.Desk.world c.reply.new.desk) c.in-Err-NoFile.ensures.reading h)
     (rw c.in-Err-NoFile.field-0-is at c.in-Err-NoFile.ensures.told)
+
+pub returns-in-Ok-clause-counts : goal.returns-in-Ok-clause-counts
+returns-in-Ok-clause-counts g c =
+    let said = said_of c.in-Ok.reply in
+    let mid = g.D.Desk.world c.reply.new.desk in
+    let new = g.D.Desk.world c.tell.new.desk in
+    never_fall (g.D.Desk.world c.args.desk.now) mid new c.in-Ok.ensures.reading c.in-Ok.ensures.later
+    (tells_count said.note said.target said.text mid new c.tell.result c.tell.ensures)
+
+pub returns-in-Err-Refused-clause-counts : goal.returns-in-Err-Refused-clause-counts
+returns-in-Err-Refused-clause-counts g c =
+    let mid = g.D.Desk.world c.reply.new.desk in
+    let new = g.D.Desk.world c.refuse.new.desk in
+    never_fall (g.D.Desk.world c.args.desk.now) mid new c.in-Err-Refused.ensures.reading c.in-Err-Refused.ensures.later
+    (refuses_count c.in-Err-Refused.fault mid new c.refuse.result c.refuse.ensures)
+
+pub returns-in-Err-NoFile-clause-counts : goal.returns-in-Err-NoFile-clause-counts
+returns-in-Err-NoFile-clause-counts g c =
+    only_read (g.D.Desk.world c.args.desk.now) (g.D.Desk.world c.reply.new.desk) c.in-Err-NoFile.ensures.reading c.in-Err-NoFile.ensures.later
+
+pub returns-in-Err-ReadFault-clause-counts : goal.returns-in-Err-ReadFault-clause-counts
+returns-in-Err-ReadFault-clause-counts g c =
+    only_read (g.D.Desk.world c.args.desk.now) (g.D.Desk.world c.reply.new.desk) c.in-Err-ReadFault.ensures.reading c.in-Err-ReadFault.ensures.later
+
+pub returns-in-Err-Memory-clause-counts : goal.returns-in-Err-Memory-clause-counts
+returns-in-Err-Memory-clause-counts g c =
+    only_read (g.D.Desk.world c.args.desk.now) (g.D.Desk.world c.reply.new.desk) c.in-Err-Memory.ensures.reading c.in-Err-Memory.ensures.later

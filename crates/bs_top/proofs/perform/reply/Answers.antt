@@ -1,12 +1,12 @@
 use Rattle.std.proofs.Common.{map, string_bytes, sym, subst, ap, ◌∙◌, Some, Err}
 use Rattle.bs_report.specs.declared.faults.Fault.TheVariants as fault
-use Rattle.bs_top.specs.declared.stop.Stop.TheVariants.{Refused}
+use Rattle.bs_top.specs.declared.stopped.Stopped.TheVariants.{Refused}
 use Rattle.std.specs.Prelude.{IfSome}
 use Rattle.bs_words.specs.Parts.{command_in}
 use Rattle.bs_top.specs.Answer.{reply_to}
 use Rattle.bs_top.specs.Seen.{asked_of, said_of}
 use Rattle.bs_top.specs.Step.{Told}
-use Rattle.bs_top.specs.Stops.{stop_for_words}
+use Rattle.bs_top.specs.Stopped.{stopped_for_words}
 use Rattle.bs_top.specs.Words.{asked_by}
 use Rattle.bs_top.proofs.Limits.{limit_of, waves_of}
 use Rattle.bs_top.proofs.Replying.{asked_is, bad_words, no_words, not_asked}
@@ -23,7 +23,7 @@ pub returns-in_err-command-clause-told : goal.returns-in_err-command-clause-told
 returns-in_err-command-clause-told g c =
     let words = map string_bytes c.args.words.now in
     always (g.D.Desk.world c.args.desk.now).files (λ files.
-    at_stop (Told said_of (reply_to files (asked_by words))) (stop_for_words c.in_err-command.field-0.0) c.from_residual.result c.from_residual.ensures.1
+    at_stop (Told said_of (reply_to files (asked_by words))) (stopped_for_words c.in_err-command.field-0.0) c.from_residual.result c.from_residual.ensures.1
     (bad_words files (command_in words) c.in_err-command.field-0.0 c.in_err-command.ensures.err))
 
 pub returns-in-Some-Check-clause-told : goal.returns-in-Some-Check-clause-told

@@ -1,5 +1,5 @@
 use Rattle.std.proofs.Common.{ap, ◌∙◌}
-use Rattle.bs_semantics.specs.Rounds.{sends_of}
+use Rattle.bs_log.specs.Messages.{sends_of}
 use Rattle.bs_chare.proofs.NewSends.{none_before}
 use Rattle.bs_chare.proofs.chare.Chare.begin.Goals as goal
 

@@ -2,9 +2,10 @@ use Rattle.std.proofs.Common.{◌≡◌, ◌≤◌, List, sym, ap, subst, ◌∙
 use Rattle.std.proofs.lemmas.Result.{err_from_is_err_and}
 use Rattle.bs_log.specs.declared.history.Message.{Message}
 use Rattle.bs_log.specs.Size.{size}
+use Rattle.bs_log.specs.Lists.{Apart}
+use Rattle.bs_log.specs.Messages.{one_asked}
 use Rattle.bs_match.specs.Mail.{lookup, with_message}
 use Rattle.bs_semantics.specs.Run.{Lookup}
-use Rattle.bs_semantics.specs.Rounds.{Apart, one_asked}
 use Rattle.bs_chare.specs.Chare.{HoldsProper}
 use Rattle.bs_chare.specs.Fault.{IsRunFault, history_under}
 use Rattle.bs_chare.proofs.Mails.{proper_with, part_with}

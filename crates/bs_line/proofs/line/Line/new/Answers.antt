@@ -1,11 +1,12 @@
 use Rattle.std.proofs.Common.{◌≡◌, ◌∙◌, ◌==◌, length, ap, sym, subst, arith}
 use Rattle.std.proofs.lemmas.Bool.{eq-eqb, eqb-true}
-use Rattle.bs_log.specs.ClosedTest.{Mem}
+use Rattle.bs_log.specs.Lists.{Mem}
 use Rattle.bs_times.specs.Machine.{machine_of}
 use Rattle.bs_times.specs.Net.{Net}
 use Rattle.bs_times.specs.Times.{IsListed}
 use Rattle.bs_schedule.specs.Plan.{at}
-use Rattle.bs_line.specs.Layout.{ComesTo, GoesFrom, net_on}
+use Rattle.bs_rows.specs.Rows.{net_on}
+use Rattle.bs_line.specs.Layout.{ComesTo, GoesFrom}
 use Rattle.bs_line.specs.Making.{kept, mails_of, numbers, ticks_of}
 use Rattle.bs_line.specs.Places.{AreMails, mail_place}
 use Rattle.bs_line.proofs.Kept.{kept_among, kept_mails, kept_tick}

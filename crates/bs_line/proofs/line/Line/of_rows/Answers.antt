@@ -3,7 +3,8 @@ use Rattle.std.proofs.lemmas.List.{length-map, length-replicate}
 use Rattle.bs_times.specs.Net.{Net}
 use Rattle.bs_schedule.specs.Plan.{at}
 use Rattle.bs_line.specs.declared.layout.Out.{Out}
-use Rattle.bs_line.specs.Layout.{ComesTo, GoesFrom, local_causes, net_on, out_of, slots_of}
+use Rattle.bs_rows.specs.Rows.{net_on}
+use Rattle.bs_line.specs.Layout.{ComesTo, GoesFrom, local_causes, out_of, slots_of}
 use Rattle.bs_line.specs.Making.{AreRowsOn, mails_of, ticks_of}
 use Rattle.bs_line.specs.Places.{AreMails, differing}
 use Rattle.bs_line.proofs.Counted.{differing_self}

@@ -2,7 +2,7 @@ use Rattle.std.proofs.Common.{◌≡◌, ◌++◌, sym, ap, subst, ◌∙◌}
 use Rattle.std.specs.List.Sorted.{IsStrictlySortedBy}
 use Rattle.std.specs.Map.{keys_of, values_of}
 use Rattle.bs_match.specs.Keyed.{AreKeyed}
-use Rattle.bs_match.specs.Mail.{key_cmp}
+use Rattle.bs_log.specs.Messages.{key_cmp}
 use Rattle.bs_match.proofs.Finds.{taken_over}
 use Rattle.bs_match.proofs.mail.Mail.copy.Goals as goal
 

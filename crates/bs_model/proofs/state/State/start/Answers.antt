@@ -4,12 +4,13 @@ use Rattle.std.proofs.lemmas.Result.{err_from_is_err_and}
 use Rattle.bs_log.specs.declared.history.Block.{Block}
 use Rattle.bs_log.specs.declared.history.Message.{Message}
 use Rattle.bs_log.specs.declared.history.History.{History}
+use Rattle.bs_log.specs.Messages.{AreFor}
 use Rattle.bs_machine.specs.Fitted.{home_of, duration_of}
 use Rattle.bs_semantics.specs.Run.{history}
 use Rattle.bs_semantics.specs.Rounds.{mail_to}
 use Rattle.bs_semantics.specs.Serial.{messages}
 use Rattle.bs_model.specs.Book.{keyed, put_key}
-use Rattle.bs_model.specs.Mails.{AreDelivered, AreFor, AreHistories, AreKept, AreShallow, AreShort, CanDeliver, history_at}
+use Rattle.bs_model.specs.Mails.{AreDelivered, AreHistories, AreKept, AreShallow, AreShort, CanDeliver, history_at}
 use Rattle.bs_model.specs.Next.{AreBest, best_at}
 use Rattle.bs_model.specs.State.{begun_of}
 use Rattle.bs_model.proofs.Choosing.{chare_low, chares_here, home_is}

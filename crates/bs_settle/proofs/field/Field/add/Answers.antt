@@ -1,10 +1,10 @@
 use Rattle.std.proofs.Common.{◌≡◌, ◌++◌, ◌∙◌, ◌∷◌, [], inr, length, ap, subst, arith, rules}
 use Rattle.std.proofs.lemmas.Grind.{common_steps}
-use Rattle.bs_log.specs.ClosedTest.{Mem}
+use Rattle.bs_log.specs.Lists.{Mem}
 use Rattle.bs_times.specs.Times.{HasLine}
 use Rattle.bs_settle.specs.Field.{net_in}
 use Rattle.bs_settle.specs.Making.{IsMade}
-use Rattle.bs_line.specs.Layout.{net_on}
+use Rattle.bs_rows.specs.Rows.{net_on}
 use Rattle.bs_settle.proofs.Added.{some_row}
 use Rattle.bs_settle.proofs.field.Field.add.Goals as goal
 

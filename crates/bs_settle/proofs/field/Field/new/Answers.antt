@@ -1,27 +1,25 @@
-use Rattle.std.proofs.Common.{◌∙◌, subst, sym}
-use Rattle.bs_machine.specs.Fitted.{processors_of}
-use Rattle.bs_line.specs.Layout.{net_on}
-use Rattle.bs_settle.specs.Shares.{AreWhole}
-use Rattle.bs_settle.proofs.Made.{new_field, new_ticks, none_begun}
+use Rattle.std.proofs.Common.{◌∙◌, length, ap}
+use Rattle.bs_rows.specs.Rows.{net_on}
+use Rattle.bs_line.specs.Making.{numbers}
+use Rattle.bs_line.specs.Places.{mail_place}
+use Rattle.bs_schedule.specs.Plan.{at}
+use Rattle.bs_times.specs.Machine.{machine_of}
+use Rattle.bs_settle.specs.Shares.{ticks_by}
+use Rattle.bs_settle.proofs.Shared.{begun_tick, begun_ticks}
 use Rattle.bs_settle.proofs.field.Field.new.Goals as goal
 
-pub returns-clause-field : goal.returns-clause-field
-returns-clause-field c =
-    let f = c.add_all.new.self in
-    let w = subst (AreWhole (net_on c.args.log.now c.args.machine.now) (processors_of c.args.machine.now) c.args.estimates) (sym c.deref.ensures.value) c.in_ok-shares.ensures in
-    let made = c.in_ok-add_all.ensures.made c.args.estimates w in
-    new_field f c.args.log.now c.args.machine.now w.mails w.ticks (λ i. (c.add_all.ensures.log i).now) (λ i. (c.add_all.ensures.machine i).now) c.requires.valid c.requires.fitted w.listed w.each w.early made
+pub of_ticks-requires-clause-ticks : goal.of_ticks-requires-clause-ticks
+of_ticks-requires-clause-ticks c =
+    let net = net_on c.args.log.now c.args.machine.now in
+    let mails = c.in_ok-mails.mails in
+    let many = c.in_ok-ticks.ensures ∙ ap (λ ms. ticks_by c.args.estimates (length ms)) c.as_slice.ensures in
+    rw (c.as_slice-2.ensures, c.as_slice-3.ensures, many) (begun_ticks net c.args.estimates mails c.requires.estimates (c.in_ok-mails.ensures (machine_of c.args.machine.now)))
 
 pub returns-clause-ticks : goal.returns-clause-ticks
 returns-clause-ticks c =
-    let f = c.add_all.new.self in
-    let w = subst (AreWhole (net_on c.args.log.now c.args.machine.now) (processors_of c.args.machine.now) c.args.estimates) (sym c.deref.ensures.value) c.in_ok-shares.ensures in
-    let made = c.in_ok-add_all.ensures.made c.args.estimates w in
-    (w.mails, w.listed, λ m l. new_ticks f c.args.log.now c.args.machine.now w.mails w.ticks (λ i. (c.add_all.ensures.log i).now) (λ i. (c.add_all.ensures.machine i).now) c.requires.valid c.requires.fitted w.listed w.each w.early made m l ∙ w.by m l)
-
-pub returns-clause-begun : goal.returns-clause-begun
-returns-clause-begun c p =
-    let f = c.add_all.new.self in
-    let net = net_on c.args.log.now c.args.machine.now in
-    let w = subst (AreWhole net (processors_of c.args.machine.now) c.args.estimates) (sym c.deref.ensures.value) c.in_ok-shares.ensures in
-    none_begun net w.mails w.ticks (processors_of c.args.machine.now) f.places.items f.lines.items (c.in_ok-add_all.ensures.made c.args.estimates w) p
+    let mails = c.in_ok-mails.mails in
+    let many = c.in_ok-ticks.ensures ∙ ap (λ ms. ticks_by c.args.estimates (length ms)) c.as_slice.ensures in (
+      mails,
+      c.in_ok-mails.ensures (machine_of c.args.machine.now),
+      λ m l. c.in_ok-field.ensures.ticks m l ∙ (λ i. at (numbers ((c.as_slice-3.ensures ∙ many) i)) (mail_place (c.as_slice-2.ensures i) m)) ∙ begun_tick c.args.estimates mails m,
+    )

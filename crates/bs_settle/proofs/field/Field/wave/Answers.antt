@@ -1,6 +1,6 @@
 use Rattle.std.proofs.Common.{◌≡◌, ◌∙◌, List, ap, subst, sym}
 use Rattle.bs_log.specs.declared.log.MailRef.{MailRef}
-use Rattle.bs_log.specs.ClosedTest.{Mem}
+use Rattle.bs_log.specs.Lists.{Mem}
 use Rattle.bs_times.specs.Bounds.{Fits}
 use Rattle.bs_times.specs.Times.{IsListed}
 use Rattle.bs_schedule.specs.Plan.{at}

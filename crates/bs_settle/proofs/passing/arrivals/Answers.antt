@@ -1,0 +1,15 @@
+use Rattle.std.proofs.Common.{get_or, arith}
+use Rattle.bs_log.specs.declared.log.MailRef.{MailRef}
+use Rattle.bs_schedule.proofs.Places.{place_mem}
+use Rattle.bs_settle.proofs.passing.arrivals.Goals as goal
+
+pub travel-requires-clause-is_send : goal.travel-requires-clause-is_send
+travel-requires-clause-is_send c =
+    let none : MailRef = record { row = 0; index = 0 } in
+    c.requires.sends (get_or c.args.mails.now c.loop-mail.mail-index none) (place_mem c.args.mails.now c.loop-mail.mail-index none c.loop-mail-test.true)
+
+pub bounds-starts-mail : goal.bounds-starts-mail
+bounds-starts-mail c =
+    let none : MailRef = record { row = 0; index = 0 } in
+    let is = c.requires.sends (get_or c.args.mails.now c.loop-mail.mail-index none) (place_mem c.args.mails.now c.loop-mail.mail-index none c.loop-mail-test.true) in
+    omega (arith, is.row_most, c.requires.each)

@@ -1,6 +1,0 @@
-use Rattle.bs_top.proofs.predicting.foretold.Goals as goal
-
-pub outcome-requires-clause-times : goal.outcome-requires-clause-times
-outcome-requires-clause-times c =
-    let times = c.requires.times in
-    record { table = times.table; starts = times.starts; ends = times.ends; in_range = times.in_range }

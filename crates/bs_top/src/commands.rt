@@ -1,0 +1,8 @@
+// The commands, each with its steps up to the reply.
+pub(crate) mod check;
+pub(crate) mod emulate;
+mod journal;
+pub(crate) mod model;
+pub(crate) mod predict;
+pub(crate) mod run;
+pub(crate) mod trace;
