@@ -6,5 +6,6 @@ pub mod Verbs
 pub mod Numbers
 pub mod Machine
 pub mod Roles
+pub mod Generated
 pub mod Command
 pub mod Parts

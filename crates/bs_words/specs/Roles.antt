@@ -1,6 +1,6 @@
 -- Which words may stand for a file, a machine, a workload, its size and its seed.
-use Rattle.std.specs.Prelude.{Bool, true, false, ◌&&◌, ◌||◌, List, [], ◌∷◌, is_some, codes}
-use Rattle.std.specs.Str.{bytes_eq}
+use Rattle.std.specs.Prelude.{Bool, true, false, ◌&&◌, List, [], ◌∷◌, is_some}
+use Rattle.bs_gen.specs.Words.{workload_of}
 use Rattle.bs_words.specs.Machine.{machine_word}
 use Rattle.bs_words.specs.Numbers.{number_from}
 use Rattle.bs_words.specs.Plain.{Text}
@@ -11,8 +11,9 @@ use Rattle.bs_words.specs.declared.roles.Role.TheVariants as role
 abbrev pub is_machine : Text → Bool
 is_machine word = is_some (machine_word word)
 
+-- `ring`, `stencil` or `tree`
 abbrev pub is_workload : Text → Bool
-is_workload word = bytes_eq word (codes "ring") || bytes_eq word (codes "stencil") || bytes_eq word (codes "tree")
+is_workload word = is_some (workload_of word)
 
 abbrev pub is_in_role : Role → Text → Bool
 is_in_role role.File word = true

@@ -7,7 +7,7 @@ use Rattle.bs_words.specs.declared.roles.Role.TheVariants as role
 use Rattle.bs_words.specs.declared.setting.Setting.{Setting}
 use Rattle.bs_words.specs.declared.setting.Setting.TheVariants.{Limit, Workers, Waves, Journal}
 use Rattle.bs_words.specs.declared.verb.Verb.{Verb}
-use Rattle.bs_words.specs.declared.verb.Verb.TheVariants.{Check, Model, Emulate, Predict, Run, Trace, Gen, Trial}
+use Rattle.bs_words.specs.declared.verb.Verb.TheVariants.{Check, Model, Emulate, Predict, Run, Trace, Chain, Gen, Trial}
 
 abbrev pub verb_of : Text → Option Verb
 verb_of word =
@@ -17,8 +17,9 @@ verb_of word =
     else (if bytes_eq word (codes "predict") then Some Predict
     else (if bytes_eq word (codes "run") then Some Run
     else (if bytes_eq word (codes "trace") then Some Trace
+    else (if bytes_eq word (codes "chain") then Some Chain
     else (if bytes_eq word (codes "gen") then Some Gen
-    else (if bytes_eq word (codes "trial") then Some Trial else None)))))))
+    else (if bytes_eq word (codes "trial") then Some Trial else None))))))))
 
 -- what each name of a command stands for
 abbrev pub roles_of : Verb → List Role
@@ -28,6 +29,7 @@ roles_of Emulate = role.File ∷ role.File ∷ []
 roles_of Predict = role.File ∷ role.Machine ∷ []
 roles_of Run = role.File ∷ role.Machine ∷ []
 roles_of Trace = role.File ∷ role.Machine ∷ []
+roles_of Chain = role.File ∷ role.Machine ∷ []
 roles_of Gen = role.Workload ∷ role.Size ∷ role.Seed ∷ []
 roles_of Trial = role.Workload ∷ role.Size ∷ role.Seed ∷ []
 
@@ -42,5 +44,6 @@ has Predict Journal = true
 has Run Limit = true
 has Run Workers = true
 has Run Waves = true
+has Chain Workers = true
 has Trial Workers = true
 has _ _ = false

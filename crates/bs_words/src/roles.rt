@@ -4,6 +4,7 @@ ghost use Rattle.bs_words.specs.Numbers.{number_from};
 ghost use Rattle.bs_words.specs.Roles.{are_in_roles, is_in_role};
 
 use crate::machine::machine_word;
+use bs_gen::Workload;
 use bs_num::read_decimal;
 
 /// What a name of a command stands for.
@@ -39,7 +40,7 @@ fn in_role(role: Role, name: &str) -> bool
     match role {
         Role::File => true,
         Role::Machine => machine_word(name).is_some(),
-        Role::Workload => name == "ring" || name == "stencil" || name == "tree",
+        Role::Workload => Workload::named(name).is_some(),
         Role::Size => number(name.as_bytes(), 1, 512).is_some(),
         Role::Seed => number(name.as_bytes(), 0, 999_999).is_some(),
     }
@@ -48,7 +49,7 @@ fn in_role(role: Role, name: &str) -> bool
 /// A plain decimal from `low` to `high`.
 pub(crate) fn number(text: &[u8], low: u64, high: u64) -> Option<u64>
     ensures value { result ≡ number_from low high text.now }
-    ensures range { IfSome result (λ n. n ≤ high) }
+    ensures range { IfSome result (λ n. (low ≤ n) × (n ≤ high)) }
 {
     match read_decimal(text, high) {
         Ok(n) if low <= n => Some(n),

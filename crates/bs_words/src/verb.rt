@@ -14,6 +14,7 @@ pub enum Verb {
     Predict,
     Run,
     Trace,
+    Chain,
     Gen,
     Trial,
 }
@@ -28,6 +29,7 @@ pub(crate) fn verb_named(word: &str) -> Option<Verb>
         "predict" => Some(Verb::Predict),
         "run" => Some(Verb::Run),
         "trace" => Some(Verb::Trace),
+        "chain" => Some(Verb::Chain),
         "gen" => Some(Verb::Gen),
         "trial" => Some(Verb::Trial),
         _ => None,
@@ -42,7 +44,9 @@ impl Verb {
         match self {
             Verb::Check => &[Role::File],
             Verb::Emulate => &[Role::File, Role::File],
-            Verb::Model | Verb::Predict | Verb::Run | Verb::Trace => &[Role::File, Role::Machine],
+            Verb::Model | Verb::Predict | Verb::Run | Verb::Trace | Verb::Chain => {
+                &[Role::File, Role::Machine]
+            }
             Verb::Gen | Verb::Trial => &[Role::Workload, Role::Size, Role::Seed],
         }
     }
@@ -55,7 +59,7 @@ impl Verb {
             Setting::Limit => matches!(self, Verb::Model | Verb::Emulate | Verb::Run),
             Setting::Workers => matches!(
                 self,
-                Verb::Emulate | Verb::Predict | Verb::Run | Verb::Trial
+                Verb::Emulate | Verb::Predict | Verb::Run | Verb::Chain | Verb::Trial
             ),
             Setting::Waves => matches!(self, Verb::Predict | Verb::Run),
             Setting::Journal => matches!(self, Verb::Predict),
