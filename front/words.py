@@ -6,6 +6,7 @@ can name a file, and so that words that are none get a reason.
 from typing import Dict, List, NamedTuple, Optional
 
 PROG, LOG, MACHINE = "PROG", "LOG", "MACHINE"
+KIND, CHARES, SEED = "KIND", "N", "SEED"
 
 
 class Command(NamedTuple):
@@ -27,7 +28,12 @@ COMMANDS: Dict[str, Command] = {
         (LOG, MACHINE), ("--waves", "--journal", "--workers"), "prints when each block of a log runs on a machine"
     ),
     "trace": Command((LOG, MACHINE), (), "prints what each processor ran, and when each message left and came"),
+    "gen": Command((KIND, CHARES, SEED), (), "prints a program that is made from a kind, a number of chares and a seed"),
+    "trial": Command((KIND, CHARES, SEED), ("--workers",), "runs such a program on flat:64:10, and prints one line"),
 }
+
+# The kinds of programs that may be generated.
+KINDS = ("ring", "stencil", "tree")
 
 # The greatest value of each option that takes a number from 1.
 RANGES = {"--limit": 262_144, "--workers": 64, "--waves": 2**40}
@@ -46,6 +52,8 @@ class Read(NamedTuple):
         roles = COMMANDS[self.command].names if self.command in COMMANDS else ()
         found = []
         for role, name in zip(roles, self.names):
+            if role not in (PROG, LOG, MACHINE):
+                continue
             if role == MACHINE and name.startswith("flat:") or self.command == "emulate" and role == LOG:
                 continue
             found.append(name)
@@ -157,6 +165,12 @@ def why_no_command(found):
         if role == MACHINE and name.startswith("flat:") and not is_flat(name):
             ranges = "P processors (1 to 65536) and latency L (1 to 274877906944)"
             return f"'{name}' is no flat machine: flat:P:L has {ranges}"
+        if role == KIND and name not in KINDS:
+            return f"'{name}' is no kind of program: there are {', '.join(KINDS)}"
+        if role == CHARES and not is_number(name, 512):
+            return f"a generated program has from 1 to 512 chares, and not '{name}'"
+        if role == SEED and name != "0" and not is_number(name, 999_999):
+            return f"a seed is a plain number from 0 to 999999, and not '{name}'"
     return of_settings(found, command)
 
 

@@ -6,3 +6,4 @@ pub mod Loads
 pub mod Outcomes
 pub mod Report
 pub mod Trace
+pub mod Trial

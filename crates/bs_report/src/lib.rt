@@ -1,5 +1,5 @@
 //! The texts that the program writes about a run: the report of an outcome, the trace of a log, the
-//! journal of waves, and the line of a refusal.
+//! journal of waves, the line of a trial, and the line of a refusal.
 //!
 //! `docs/output.md` shows each line.
 #![tactic(auto)]
@@ -13,6 +13,7 @@ mod runs;
 mod text;
 mod traced;
 mod traces;
+mod trials;
 
 pub use ending::end;
 pub use faults::{Fault, fault_line};
@@ -21,6 +22,7 @@ pub use outcomes::outcome;
 pub use processors::each_processor_once;
 pub use text::report;
 pub use traces::{each_row_once, trace};
+pub use trials::trial_line;
 
 #[cfg(test)]
 mod tests;

@@ -11,7 +11,7 @@ use std::alloc::{AllocError, Global};
 use std::fmt::Write;
 
 // The greatest end of a block, in ticks, and 0 without blocks.
-fn span(rows: &[OutRow]) -> u128
+pub(crate) fn span(rows: &[OutRow]) -> u128
     ensures { result ≡ span_of rows.now }
 {
     rows.iter().fold(0, |latest, row| latest.max(row.end))

@@ -84,7 +84,7 @@ module _ (files : Files) where
   names (flat processors latency) m h = ap or_bad_machine h
   names (file name) m h = (h.0, reads name h.0 h.1, ap or_bad_machine h.2)
 
-  fitting : (chares : ℕ) (m : MachineOf) → has_length m.place chares ≡ true → fits chares m (Ok tt)
+  pub fitting : (chares : ℕ) (m : MachineOf) → has_length m.place chares ≡ true → fits chares m (Ok tt)
   unfolding fits
   fitting chares m h = rw h refl
 
@@ -123,7 +123,7 @@ module _ (files : Files) where
         → CanRun files name word limit p m → IsAnswer files (Some (model name word limit)) a → IsReported p m limit a
     reports name word limit p m a can is = reported p m limit is.reply a (runs name word limit p m is.reply can is.is_reply) is.is_answer
 
-    logs : (p : Program) (limit : ℕ) (histories : List History) → IsVerdict p limit (clean histories) → logged p limit (Ok (log_of histories (length p.entries)))
+    pub logs : (p : Program) (limit : ℕ) (histories : List History) → IsVerdict p limit (clean histories) → logged p limit (Ok (log_of histories (length p.entries)))
     unfolding logged
     logs p limit histories h = (clean histories, h, refl)
 

@@ -17,9 +17,11 @@ mod Limits
 mod AsModel
 mod Bounded
 mod Waving
+mod Trying
 mod Enough
 mod Foretelling
 mod OneLog
 mod Foretold
 mod Completing
+mod CompletingTrials
 mod SomeAnswer

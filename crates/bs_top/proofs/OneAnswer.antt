@@ -16,19 +16,23 @@ use Rattle.bs_semantics.specs.Serial.{IsSerial, Machine, timed}
 use Rattle.bs_tree.specs.declared.tree.Program.{Program}
 use Rattle.bs_top.specs.declared.stopped.Stopped.TheVariants.{Refused}
 use Rattle.bs_top.specs.Answer.{Answer, IsAnswer, answer_of, reply_to}
-use Rattle.bs_top.specs.Reports.{IsReport, reported, serial_run}
+use Rattle.bs_top.specs.Reports.{IsOutcomeOn, IsReport, outcome_on, reported, serial_run}
 use Rattle.bs_top.specs.Inputs.{accepted, checked, contents, file_limit, fits, log_limit, log_named, machine_named, or_bad_machine, program_in, whole}
 use Rattle.bs_top.specs.commands.Predict.{predicted_with}
 use Rattle.bs_top.specs.Verdicts.{if_clean, judged, log_if_clean, logged}
 use Rattle.bs_top.specs.commands.Emulate.{kept_in}
+use Rattle.bs_top.specs.commands.Gen.{generated}
 use Rattle.bs_top.specs.commands.Check.{printed}
-use Rattle.bs_top.specs.commands.Run.{ran}
+use Rattle.bs_top.specs.commands.Run.{by_log, ran}
 use Rattle.bs_top.specs.commands.Model.{simulated}
 use Rattle.bs_top.specs.commands.Trace.{traced}
+use Rattle.bs_top.specs.commands.Trial.{trial_limit, tried, tried_as}
 use Rattle.bs_top.specs.Waves.{within}
-use Rattle.bs_top.specs.Step.{Said, and_then, gives}
-use Rattle.bs_top.specs.Words.{Asked, check as check_asked, model, emulate, run, predict, trace}
+use Rattle.bs_top.specs.Step.{Said, Step, and_then, gives}
+use Rattle.bs_top.specs.Words.{Asked, check as check_asked, model, emulate, run, predict, trace, gen, trial}
+use Rattle.bs_gen.specs.Programs.{workload_text}
 use Rattle.bs_words.specs.Machine.{MachineWord, flat, file}
+use Rattle.bs_words.specs.declared.generated.Generated.{Generated}
 use Rattle.bs_top.specs.Known.{Known}
 use Rattle.bs_top.proofs.OneMachine.{one_machine}
 use Rattle.bs_top.proofs.OneLog.{one_foretold, one_log, one_traced, one_within, valid_log}
@@ -66,15 +70,19 @@ not_refused : (p : Program) (why : CheckFault) → refusal p ≡ None → IsRefu
 not_refused p (check.Refused s r) h k = no_refusal (refusal p) h k
 not_refused p check.Memory h k = k
 
-one_checked : (p : Program) → IsOne (checked p)
+pub one_checked : (p : Program) → IsOne (checked p)
 unfolding checked
 one_checked p (Ok a) (Ok b) h k = refl
 one_checked p (Ok a) (Err s) h k = absurd (not_refused p k.0 h k.1)
 one_checked p (Err r) (Ok b) h k = absurd (not_refused p h.0 k h.1)
 one_checked p (Err r) (Err s) h k = ap (λ t. Err t) (h.2 ∙ ap (λ f. Refused (fault.CheckFailed f)) (broken_is p h.0 k.0 h.1 k.1) ∙ sym k.2)
 
+-- a trial from its machine on
+abbrev pub line : Generated → Program → MachineOf → Step Said
+line g p m = and_then (by_log None p m trial_limit (outcome_on p m trial_limit)) (λ o. gives (Ok (tried_as g o)))
+
 module _ (known : Known) where
-  one_program : (text : List ℕ) → IsOne (program_in text)
+  pub one_program : (text : List ℕ) → IsOne (program_in text)
   unfolding program_in
   one_program text (Ok p) (Ok q) h k = ap (λ r. Ok r) (known.program text p q h k)
   one_program text (Ok p) (Err s) h k = absurd (known.not_both text p k.0 h k.1)
@@ -108,11 +116,33 @@ module _ (known : Known) where
   log_causal : (p : Program) (limit : ℕ) (kept : Log) → logged p limit (Ok kept) → (machine : Machine) → IsTimely machine → Causal (net_of kept machine)
   log_causal p limit kept is machine timely = let of = histories_of p limit kept is in subst (λ k. Causal (net_of k machine)) (sym of.2) (known.logs.run_causal p limit machine of.0 timely of.1)
 
+  pub one_by_log : {A : Type 0} (waves : Option ℕ) (p : Program) (m : MachineOf) (limit : ℕ) (last : Step A) → IsOne last → IsOne (by_log waves p m limit last)
+  unfolding by_log
+  one_by_log waves p m limit last one = one_after (fits p.chares m) (λ _. and_then (logged p limit) (λ kept. and_then (within waves kept m) (λ _. last))) (one_fit p.chares m)
+      (λ _. one_where (logged p limit) (λ kept. and_then (within waves kept m) (λ _. last)) (one_logged p limit)
+      (λ kept is. one_after (within waves kept m) (λ _. last) (one_within known.logs kept (log_causal p limit kept is) m waves) (λ _. one)))
+
   pub one_ran : (waves : Option ℕ) (p : Program) (m : MachineOf) (limit : ℕ) → IsOne (ran waves p m limit)
-  unfolding ran
-  one_ran waves p m limit = one_after (fits p.chares m) (λ _. and_then (logged p limit) (λ kept. and_then (within waves kept m) (λ _. serial_run p m limit))) (one_fit p.chares m)
-      (λ _. one_where (logged p limit) (λ kept. and_then (within waves kept m) (λ _. serial_run p m limit)) (one_logged p limit)
-      (λ kept is. one_after (within waves kept m) (λ _. serial_run p m limit) (one_within known.logs kept (log_causal p limit kept is) m waves) (λ _. one_run p m limit)))
+  unfolding ran by_log
+  one_ran waves p m limit = one_by_log waves p m limit (serial_run p m limit) (one_run p m limit)
+
+  pub one_outcome : (p : Program) (m : MachineOf) (limit : ℕ) → IsOne (outcome_on p m limit)
+  one_outcome p m limit (Ok a) (Ok b) h k = ap (λ o. Ok o) (same a b h k)
+    where
+      same : (a b : Outcome) (h : IsOutcomeOn p m limit a) (k : IsOutcomeOn p m limit b) → a ≡ b
+      same a b h k =
+          let machine = one_machine k.fitted h.fitted (k.is_machine ∙ sym h.is_machine) (k.is_fitted ∙ sym h.is_fitted) in
+          outcome_is a b (known.serial p limit (machine_of h.fitted) (timed a) (timed b) h.is_outcome (subst (λ m. IsSerial p limit m (timed b)) machine k.is_outcome))
+  one_outcome p m limit (Ok a) (Err s) h k = absurd k
+  one_outcome p m limit (Err r) s h k = absurd h
+
+  one_tried : (g : Generated) → IsOne (tried g)
+  unfolding tried
+  one_tried g =
+      one_after (program_in (workload_text g.kind g.chares g.seed)) (λ p. and_then (checked p) (λ _. and_then (gives (or_bad_machine (flat_in 64 10))) (λ m. line g p m))) (one_program (workload_text g.kind g.chares g.seed))
+      (λ p. one_after (checked p) (λ _. and_then (gives (or_bad_machine (flat_in 64 10))) (λ m. line g p m)) (one_checked p)
+      (λ _. one_after (gives (or_bad_machine (flat_in 64 10))) (λ m. line g p m) (one_given (or_bad_machine (flat_in 64 10)))
+      (λ m. one_after (by_log None p m trial_limit (outcome_on p m trial_limit)) (λ o. gives (Ok (tried_as g o))) (one_by_log None p m trial_limit (outcome_on p m trial_limit) (one_outcome p m trial_limit)) (λ o. one_given (Ok (tried_as g o))))))
 
   pub one_accepted : (files : Files) (name : List ℕ) → IsOne (accepted files name)
   unfolding accepted
@@ -142,6 +172,8 @@ module _ (known : Known) where
   one_reply files (Some (trace name word)) =
       one_where (log_named files name) (λ kept. and_then (machine_named files word) (λ m. traced kept m)) (one_log known.logs files name (one_contents log_limit files name))
       (λ kept is. one_after (machine_named files word) (λ m. traced kept m) (one_named files word) (λ m. one_traced known.logs kept (valid_log files name kept is) m (one_fit kept.chares m)))
+  one_reply files (Some (gen program)) = one_given (Ok (generated program))
+  one_reply files (Some (trial program)) = one_tried program
 
   pub one : (files : Files) (asked : Option Asked) (a b : Answer) → IsAnswer files asked a → IsAnswer files asked b → a ≡ b
   one files asked a b h k = h.is_answer ∙ ap answer_of (one_reply files asked h.reply k.reply h.is_reply k.is_reply) ∙ sym k.is_answer

@@ -19,13 +19,16 @@ use Rattle.bs_top.specs.Verdicts.{logged}
 use Rattle.bs_top.specs.commands.Check.{printed}
 use Rattle.bs_top.specs.commands.Run.{ran}
 use Rattle.bs_top.specs.Answer.{reply_to}
+use Rattle.bs_top.specs.commands.Gen.{generated}
 use Rattle.bs_top.specs.commands.Model.{simulated}
+use Rattle.bs_top.specs.commands.Trial.{tried}
 use Rattle.bs_top.specs.declared.asked.Asked.{Asked as AskedFor}
 use Rattle.bs_top.specs.Seen.{asked_of, said_of}
 use Rattle.bs_top.specs.Step.{Said, Step, Told, and_then, gives}
 use Rattle.bs_top.specs.Stopped.{stopped_for_words}
-use Rattle.bs_top.specs.Words.{Asked, check, model, emulate, run, predict, trace, built}
+use Rattle.bs_top.specs.Words.{Asked, check, model, emulate, run, predict, trace, gen, trial, built}
 use Rattle.bs_words.specs.Machine.{MachineWord}
+use Rattle.bs_words.specs.declared.generated.Generated.{Generated}
 use Rattle.bs_tree.specs.declared.tree.Program.{Program}
 use Rattle.bs_top.proofs.Machines.{items}
 use Rattle.bs_top.proofs.Simulating.{itself, this_log}
@@ -45,6 +48,8 @@ AsksFor name (emulate n into limit) = name ≡ n
 AsksFor name (run n word limit waves) = name ≡ n
 AsksFor name (predict n word waves journal) = ⊥
 AsksFor name (trace n word) = ⊥
+AsksFor name (gen program) = ⊥
+AsksFor name (trial program) = ⊥
 
 -- the program of a file and the machine of a word, and what comes of both
 abbrev pub on_both : Files → List ℕ → MachineWord → (Program → MachineOf → Step Said) → Step Said
@@ -86,6 +91,8 @@ module _ (files : Files) (name : List ℕ) where
       (stops program_of said_of (accepted files name) (λ p. and_then (machine_named files word) (λ m. ran waves p m limit)) stop h)
   not_accepted (predict n word waves journal) stop is h = absurd is
   not_accepted (trace n word) stop is h = absurd is
+  not_accepted (gen program) stop is h = absurd is
+  not_accepted (trial program) stop is h = absurd is
 
   module _ (p : Program) (is_program : accepted files name (Ok p)) where
     pub prints : (said : Said) → said ≡ printed p → reply_to files (Some (check name)) (Ok said)
@@ -121,6 +128,15 @@ module _ (files : Files) (name : List ℕ) where
   pub told_run : (word : MachineWord) (limit : ℕ) (waves : Option ℕ) (r : Result Reply Stopped) → Told said_of (on_both files name word (λ p m. ran waves p m limit)) r → Told said_of (reply_to files (Some (run name word limit waves))) r
   unfolding reply_to
   told_run word limit waves r h = h
+
+-- commands that read no file
+pub generates : (files : Files) (program : Generated) (reply : Reply) → said_of reply ≡ generated program → Told said_of (reply_to files (Some (gen program))) (Ok reply)
+unfolding reply_to
+generates files program reply is = ap (λ s. Ok s) (sym is)
+
+pub told_trial : (files : Files) (program : Generated) (r : Result Reply Stopped) → Told said_of (tried program) r → Told said_of (reply_to files (Some (trial program))) r
+unfolding reply_to
+told_trial files program r h = h
 
 pub no_words : (files : Files) → Told said_of (reply_to files None) (Err (Refused fault.BadWords))
 unfolding reply_to

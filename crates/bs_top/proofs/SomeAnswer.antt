@@ -32,26 +32,31 @@ use Rattle.bs_times.specs.Machine.{machine_of}
 use Rattle.bs_times.specs.Net.{Causal, Net, net_of}
 use Rattle.bs_times.specs.Outcomes.{outcome_of}
 use Rattle.bs_tree.specs.declared.tree.Program.{Program}
+use Rattle.bs_gen.specs.Programs.{workload_text}
+use Rattle.bs_words.specs.Generated.{asked_program}
 use Rattle.bs_words.specs.Machine.{MachineWord, file, flat, machine_word}
 use Rattle.bs_words.specs.Parts.{command_in}
 use Rattle.bs_words.specs.declared.command.Command.{Command}
+use Rattle.bs_words.specs.declared.generated.Generated.{Generated}
 use Rattle.bs_words.specs.declared.verb.Verb.{Verb}
-use Rattle.bs_words.specs.declared.verb.Verb.TheVariants.{Check, Emulate, Gen, Model, Predict, Run, Trace, Trial}
+use Rattle.bs_words.specs.declared.verb.Verb.TheVariants.{Chain, Check, Emulate, Gen, Model, Predict, Run, Trace, Trial}
 use Rattle.bs_top.specs.Answer.{Answer, IsAnswer, answer_of, reply_to}
 use Rattle.bs_top.specs.Inputs.{accepted, checked, contents, file_limit, fits, log_in, log_limit, log_named, machine_named, or_bad_machine, program_in, whole}
 use Rattle.bs_top.specs.Known.{Known, SomeLaws}
-use Rattle.bs_top.specs.Reports.{IsPrediction, reported, serial_run, timed_on}
+use Rattle.bs_top.specs.Reports.{IsPrediction, outcome_on, reported, serial_run, timed_on}
 use Rattle.bs_top.specs.Step.{Said, Step, and_then, gives}
 use Rattle.bs_top.specs.Verdicts.{if_clean, judged, log_if_clean, logged}
 use Rattle.bs_top.specs.Waves.{IsNetOn, most_waves, no_ticks, within}
-use Rattle.bs_top.specs.Words.{AreWaves, Asked, asked_by, asked_with, built, check as check_asked, emulate, model, predict, run, trace}
+use Rattle.bs_top.specs.Words.{AreWaves, Asked, asked_by, asked_with, built, check as check_asked, emulate, gen, model, predict, run, trace, trial}
 use Rattle.bs_top.specs.commands.Check.{printed}
 use Rattle.bs_top.specs.commands.Emulate.{kept_in}
 use Rattle.bs_top.specs.commands.Journal.{journaled, journaled_on}
 use Rattle.bs_top.specs.commands.Model.{simulated}
 use Rattle.bs_top.specs.commands.Predict.{predicted, predicted_with}
-use Rattle.bs_top.specs.commands.Run.{ran}
+use Rattle.bs_top.specs.commands.Gen.{generated}
+use Rattle.bs_top.specs.commands.Run.{by_log, ran}
 use Rattle.bs_top.specs.commands.Trace.{trace_on, traced}
+use Rattle.bs_top.specs.commands.Trial.{trial_limit, tried, tried_as}
 use Rattle.bs_top.specs.declared.stopped.Stopped.{Stopped}
 use Rattle.bs_top.specs.declared.stopped.Stopped.TheVariants.{Refused}
 use Rattle.bs_top.proofs.AsModel.{verdict_count}
@@ -146,8 +151,10 @@ HasWaves (Some (emulate name into limit)) = Unit {0}
 HasWaves (Some (run name word limit waves)) = AreWaves waves
 HasWaves (Some (predict name word waves journal)) = AreWaves waves
 HasWaves (Some (trace name word)) = Unit {0}
+HasWaves (Some (gen program)) = Unit {0}
+HasWaves (Some (trial program)) = Unit {0}
 
-mapped : (f : MachineWord → Asked) (o : Option MachineWord) → ((m : MachineWord) → HasWaves (Some (f m))) → HasWaves (option_map f o)
+mapped : {A : Type 0} (f : A → Asked) (o : Option A) → ((a : A) → HasWaves (Some (f a))) → HasWaves (option_map f o)
 mapped f None h = tt
 mapped f (Some m) h = h m
 
@@ -175,8 +182,17 @@ with_waves limit waves journal Trace [] w = tt
 with_waves limit waves journal Trace (a ∷ []) w = tt
 with_waves limit waves journal Trace (a ∷ b ∷ []) w = mapped (trace a) (machine_word b) (λ m. tt)
 with_waves limit waves journal Trace (a ∷ b ∷ c ∷ ds) w = tt
-with_waves limit waves journal Gen names w = tt
-with_waves limit waves journal Trial names w = tt
+with_waves limit waves journal Chain names w = tt
+with_waves limit waves journal Gen [] w = tt
+with_waves limit waves journal Gen (a ∷ []) w = tt
+with_waves limit waves journal Gen (a ∷ b ∷ []) w = tt
+with_waves limit waves journal Gen (a ∷ b ∷ c ∷ []) w = mapped gen (asked_program a b c) (λ g. tt)
+with_waves limit waves journal Gen (a ∷ b ∷ c ∷ d ∷ es) w = tt
+with_waves limit waves journal Trial [] w = tt
+with_waves limit waves journal Trial (a ∷ []) w = tt
+with_waves limit waves journal Trial (a ∷ b ∷ []) w = tt
+with_waves limit waves journal Trial (a ∷ b ∷ c ∷ []) w = mapped trial (asked_program a b c) (λ g. tt)
+with_waves limit waves journal Trial (a ∷ b ∷ c ∷ d ∷ es) w = tt
 
 asked_waves : (words : List (List ℕ)) → HasWaves (asked_by words)
 asked_waves words = by (command_in words) refl
@@ -188,6 +204,13 @@ asked_waves words = by (command_in words) refl
 some_waves : (waves : Option ℕ) (log : Log) → AreWaves waves → 1 ≤ most_waves waves log
 some_waves None log w = omega arith
 some_waves (Some most) log w = w.0
+
+-- the text of a trial, and a trial from its machine on
+abbrev text_of : Generated → List ℕ
+text_of g = workload_text g.kind g.chares g.seed
+
+abbrev line : Generated → Program → MachineOf → Step Said
+line g p m = and_then (by_log None p m trial_limit (outcome_on p m trial_limit)) (λ o. gives (Ok (tried_as g o)))
 
 module _ (known : Known) (some : SomeLaws) where
   some_accepted : (files : Files) (name : List ℕ) → Gives (accepted files name)
@@ -259,16 +282,40 @@ module _ (known : Known) (some : SomeLaws) where
   unfolding collected.log_of
   log_chares p limit log is = let of = histories_of p limit log is in ap (λ (l : Log). l.chares) of.2 ∙ verdict_count p limit (clean of.0) of.1 of.0 refl
 
-  some_ran : (waves : Option ℕ) (p : Program) (m : MachineOf) (limit : ℕ) → AreWaves waves → CanFit m p.chares → Gives (ran waves p m limit)
-  unfolding ran
-  some_ran waves p m limit w fit =
-      some_after (fits p.chares m) (λ _. and_then (logged p limit) (λ log. and_then (within waves log m) (λ _. serial_run p m limit))) (some_fit p.chares m)
-      (λ _ fitting. some_after (logged p limit) (λ log. and_then (within waves log m) (λ _. serial_run p m limit)) (some_logged p limit)
+  some_by_log : {A : Type 0} (waves : Option ℕ) (p : Program) (m : MachineOf) (limit : ℕ) (last : Step A) → AreWaves waves → CanFit m p.chares
+      → ((hs : List History) → IsVerdict p limit (clean hs) → FittedTo m p.chares → Gives last) → Gives (by_log waves p m limit last)
+  unfolding by_log
+  some_by_log waves p m limit last w fit on_last =
+      some_after (fits p.chares m) (λ _. and_then (logged p limit) (λ log. and_then (within waves log m) (λ _. last))) (some_fit p.chares m)
+      (λ _ fitting. some_after (logged p limit) (λ log. and_then (within waves log m) (λ _. last)) (some_logged p limit)
       (λ log is.
       let f = fit fitting in
       let of = histories_of p limit log is in
       let on : FittedTo m log.chares = (f.0, f.1, f.2 ∙ sym (log_chares p limit log is)) in
-      some_after (within waves log m) (λ _. serial_run p m limit) (some_within log m on (log_causal p limit log is f.0) waves w) (λ _ enough. some_run p m limit of.0 of.1 f)))
+      some_after (within waves log m) (λ _. last) (some_within log m on (log_causal p limit log is f.0) waves w) (λ _ enough. on_last of.0 of.1 f)))
+
+  some_ran : (waves : Option ℕ) (p : Program) (m : MachineOf) (limit : ℕ) → AreWaves waves → CanFit m p.chares → Gives (ran waves p m limit)
+  unfolding ran by_log
+  some_ran waves p m limit w fit = some_by_log waves p m limit (serial_run p m limit) w fit (some_run p m limit)
+
+  some_outcome : (p : Program) (m : MachineOf) (limit : ℕ) (hs : List History) → IsVerdict p limit (clean hs) → FittedTo m p.chares → Gives (outcome_on p m limit)
+  some_outcome p m limit hs verdict f = by (some.serial p limit (machine_of f.0)).0 (some.serial p limit (machine_of f.0)).1
+    where
+      by : (r : Simulated) → IsSerial p limit (machine_of f.0) r → Gives (outcome_on p m limit)
+      by (timed o) is = (Ok o, record { fitted = f.0; is_machine = f.1; is_fitted = f.2; is_outcome = is })
+      by unclean is = absurd (some.clean_run p limit (machine_of f.0) (clean hs) verdict is hs refl)
+
+  some_tried : (g : Generated) → Gives (tried g)
+  unfolding tried checked
+  some_tried g =
+      some_after (program_in (text_of g)) (λ p. and_then (checked p) (λ _. and_then (gives (or_bad_machine (flat_in 64 10))) (λ m. line g p m))) (program_by (text_of g) (some.text (text_of g)))
+      (λ p is. some_after (checked p) (λ _. and_then (gives (or_bad_machine (flat_in 64 10))) (λ m. line g p m)) (some_checked p)
+      (λ _ fine. some_after (gives (or_bad_machine (flat_in 64 10))) (λ m. line g p m) (some_given (or_bad_machine (flat_in 64 10)))
+      (λ m made. some_after (by_log None p m trial_limit (outcome_on p m trial_limit)) (λ o. gives (Ok (tried_as g o)))
+      (some_by_log None p m trial_limit (outcome_on p m trial_limit) tt (fitting p fine m made) (some_outcome p m trial_limit)) (λ o done. some_given (Ok (tried_as g o))))))
+    where
+      fitting : (p : Program) → checked p (Ok tt) → (m : MachineOf) → or_bad_machine (flat_in 64 10) ≡ Ok m → CanFit m p.chares
+      fitting p fine m made h = let kept_by = kept p fine in some.flat 64 10 m p.chares (read_is (flat_in 64 10) m made) kept_by.least kept_by.most (is_fitting p.chares m h)
 
   -- ---- logs on machines
 
@@ -354,6 +401,8 @@ module _ (known : Known) (some : SomeLaws) where
   some_reply files (Some (trace name word)) w =
       some_after (log_named files name) (λ log. and_then (machine_named files word) (λ m. traced log m)) (some_log files name)
       (λ log is. some_after (machine_named files word) (λ m. traced log m) (some_named files word) (λ m named. some_traced log (valid_log files name log is) m (log_fits files name log is word m named)))
+  some_reply files (Some (gen program)) w = some_given (Ok (generated program))
+  some_reply files (Some (trial program)) w = some_tried program
 
   pub answered : (files : Files) (words : List (List ℕ)) → (a : Answer) × IsAnswer files (asked_by words) a
   answered files words =

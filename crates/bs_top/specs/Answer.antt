@@ -11,13 +11,15 @@ use Rattle.bs_top.specs.Inputs.{machine_named, accepted, log_named}
 use Rattle.bs_top.specs.Step.{Step, Said, gives, ◌>>=◌}
 use Rattle.bs_top.specs.Targets.{Note, TargetOf, errors}
 use Rattle.bs_top.specs.Verdicts.{logged}
-use Rattle.bs_top.specs.Words.{Asked, check, model, emulate, run, predict, trace}
+use Rattle.bs_top.specs.Words.{Asked, check, model, emulate, run, predict, trace, gen, trial}
 use Rattle.bs_top.specs.commands.Check.{printed}
 use Rattle.bs_top.specs.commands.Emulate.{kept_in}
+use Rattle.bs_top.specs.commands.Gen.{generated}
 use Rattle.bs_top.specs.commands.Model.{simulated}
 use Rattle.bs_top.specs.commands.Predict.{predicted_with}
 use Rattle.bs_top.specs.commands.Run.{ran}
 use Rattle.bs_top.specs.commands.Trace.{traced}
+use Rattle.bs_top.specs.commands.Trial.{tried}
 use Rattle.bs_top.specs.declared.reply.Ending.{Ending}
 use Rattle.bs_top.specs.declared.reply.Ending.TheVariants.{Run, Spent}
 use Rattle.bs_top.specs.declared.status.Status.{Status}
@@ -51,6 +53,8 @@ reply_to files (Some (trace name word)) = do
   kept ← log_named files name
   machine ← machine_named files word
   traced kept machine
+reply_to files (Some (gen program)) = gives (Ok (generated program))
+reply_to files (Some (trial program)) = tried program
 
 abbrev pub status_at : End → Status
 status_at end.Settled = status.Settled

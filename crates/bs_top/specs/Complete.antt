@@ -6,7 +6,9 @@ use Rattle.bs_check.specs.Refusal.{refusal}
 use Rattle.bs_log.specs.Collected.{log_of}
 use Rattle.bs_log.specs.Valid.{IsValid}
 use Rattle.bs_log.specs.declared.history.History.{History}
+use Rattle.bs_gen.specs.Programs.{workload_text}
 use Rattle.bs_log.specs.declared.log.Log.{Log}
+use Rattle.bs_log.specs.declared.outcome.Outcome.{Outcome}
 use Rattle.bs_logtext.specs.Text.{log_text}
 use Rattle.bs_machine.specs.File.{machine_in}
 use Rattle.bs_machine.specs.Machine.{MachineOf, flat_in}
@@ -18,14 +20,16 @@ use Rattle.bs_top.specs.declared.status.Status.{Status}
 use Rattle.bs_top.specs.declared.status.Status.TheVariants as status
 use Rattle.bs_top.specs.Answer.{Answer, answer_of}
 use Rattle.bs_top.specs.commands.Journal.{IsJournal}
-use Rattle.bs_top.specs.Reports.{IsPrediction, IsReport}
+use Rattle.bs_top.specs.Reports.{IsOutcomeOn, IsPrediction, IsReport}
 use Rattle.bs_top.specs.commands.Trace.{IsTracing}
+use Rattle.bs_top.specs.commands.Trial.{trial_limit, tried_as}
 use Rattle.bs_top.specs.Waves.{budget_of}
 use Rattle.bs_top.specs.Inputs.{file_limit}
 use Rattle.bs_top.specs.commands.Emulate.{kept_in}
 use Rattle.bs_top.specs.Performs.{WritesAnswer}
 use Rattle.bs_top.specs.Step.{Said}
 use Rattle.bs_words.specs.Machine.{MachineWord, flat, file}
+use Rattle.bs_words.specs.declared.generated.Generated.{Generated}
 
 -- the file of that name holds these bytes, and no more than the file of a program or a machine may have
 pub record HasFile (files : Files) (name bytes : List ℕ) : Type 0 where
@@ -92,6 +96,19 @@ IsJournaled waves into kept m answer = (said : Said) × IsJournal waves into kep
 -- the answer is the trace of the log on the machine at the log's one consistent table
 abbrev pub IsTraced : Log → MachineOf → Answer → Type 0
 IsTraced kept m answer = (said : Said) × IsTracing kept m said × (answer ≡ answer_of (Ok said))
+
+-- the text of a generated program spells a program that keeps all rules, and its verdict at the greatest limit is Clean; and
+-- the machine of a trial fits it
+pub record CanTry (g : Generated) (p : Program) (m : MachineOf) : Type 0 where
+  pub is_spelled : Spells (workload_text g.kind g.chares g.seed) p
+  pub is_kept : refusal p ≡ None
+  pub machine : flat_in 64 10 ≡ Ok m
+  pub is_fitting : IsTrue (has_length m.place p.chares)
+  pub is_clean : (histories : List History) × IsVerdict p trial_limit (clean histories)
+
+-- the answer is the line of an outcome that the serial machine model gives
+abbrev pub IsTried : Generated → Program → MachineOf → Answer → Type 0
+IsTried g p m answer = (outcome : Outcome) × IsOutcomeOn p m trial_limit outcome × (answer ≡ answer_of (Ok (tried_as g outcome)))
 
 -- no number of waves is given, or one that is enough for the log on every machine
 abbrev pub IsAmple : Option ℕ → Log → Type 0

@@ -7,10 +7,10 @@ use Rattle.bs_report.specs.declared.faults.Fault.{Fault}
 use Rattle.bs_report.specs.Fault.{fault_text}
 use Rattle.bs_top.specs.declared.status.Status.{Status}
 use Rattle.bs_top.specs.declared.status.Status.TheVariants as status
-use Rattle.bs_top.specs.Words.{Asked}
+use Rattle.bs_top.specs.Words.{Asked, gen, trial}
 use Rattle.bs_top.specs.Targets.{Note, TargetOf, errors, in_file, noted, put}
 use Rattle.bs_top.specs.Answer.{Answer, IsAnswer, refused_by}
-use Rattle.bs_top.specs.Causes.{IsBound, most_of}
+use Rattle.bs_top.specs.Causes.{HasRead, IsBound, ReadsFiles, most_of}
 
 -- why a call that writes was refused: the desk can fail and its count of write faults rose, or memory was wanting; and the
 -- count didn't fall
@@ -76,15 +76,26 @@ Refuses f old new s =
 abbrev pub Keeps : Outside → Outside → Type 0
 Keeps old new = new ≡ record old { rest = new.rest; is_open = new.is_open; found = new.found; taken = new.taken; read_faults = new.read_faults; write_faults = new.write_faults }
 
--- the last file that was asked for was found, and no more than the limit was read of it
-pub record ReadsWhole (asked : Option Asked) (new : Outside) : Type 0 where
+-- nothing was read
+pub record ReadsNothing (old new : Outside) : Type 0 where
+  pub found : new.found ≡ old.found
+  pub taken : new.taken ≡ old.taken
+  pub read_faults : new.read_faults ≡ old.read_faults
+
+-- all that the command reads was read: the last file that was asked for was found, and no more than the limit was read of it;
+-- and a command that reads no file read nothing
+abbrev pub HasReadAll : Option Asked → Outside → Outside → Type 0
+HasReadAll (Some (gen program)) old new = ReadsNothing old new
+HasReadAll (Some (trial program)) old new = ReadsNothing old new
+HasReadAll asked old new = HasRead (most_of asked) new
+
+pub record ReadsWhole (asked : Option Asked) (old new : Outside) : Type 0 where
   pub command : IsSome asked
-  pub found : new.found ≡ true
-  pub taken : new.taken ≤ most_of asked
+  pub read : HasReadAll asked old new
 
 -- more than the limit of a file of the command was read
 pub record ReadsTooMuch (asked : Option Asked) (new : Outside) : Type 0 where
-  pub command : IsSome asked
+  pub command : ReadsFiles asked
   pub found : new.found ≡ true
   pub limit : ℕ
   pub is_limit : IsBound (most_of asked) limit
@@ -92,13 +103,13 @@ pub record ReadsTooMuch (asked : Option Asked) (new : Outside) : Type 0 where
 
 -- `open` answered false
 pub record FindsNoFile (asked : Option Asked) (new : Outside) : Type 0 where
-  pub command : IsSome asked
+  pub command : ReadsFiles asked
   pub found : new.found ≡ false
   pub taken : new.taken ≡ 0
 
 -- a call that reads was refused: the count of read faults rose
 pub record FailsToRead (asked : Option Asked) (old new : Outside) : Type 0 where
-  pub command : IsSome asked
+  pub command : ReadsFiles asked
   pub can_fail : IsTrue old.can_fail
   pub rose : Rose old.read_faults new.read_faults
 
@@ -109,17 +120,17 @@ pub record FailsToWrite (old new : Outside) : Type 0 where
 
 -- why a status comes, over every desk
 abbrev pub Cause : Option Asked → Outside → Outside → Status → Type 0
-Cause asked old new status.Settled = ReadsWhole asked new
-Cause asked old new status.Deadlock = ReadsWhole asked new
-Cause asked old new status.Trapped = ReadsWhole asked new
+Cause asked old new status.Settled = ReadsWhole asked old new
+Cause asked old new status.Deadlock = ReadsWhole asked old new
+Cause asked old new status.Trapped = ReadsWhole asked old new
 Cause asked old new status.BadWords = asked ≡ None
-Cause asked old new status.BadProgram = ReadsWhole asked new
-Cause asked old new status.CheckFailed = ReadsWhole asked new
-Cause asked old new status.BadMachine = ReadsWhole asked new
-Cause asked old new status.BadLog = ReadsWhole asked new
-Cause asked old new status.AmbiguousMatch = ReadsWhole asked new
-Cause asked old new status.TooLong = ReadsWhole asked new
-Cause asked old new status.BudgetSpent = ReadsWhole asked new
+Cause asked old new status.BadProgram = ReadsWhole asked old new
+Cause asked old new status.CheckFailed = ReadsWhole asked old new
+Cause asked old new status.BadMachine = ReadsWhole asked old new
+Cause asked old new status.BadLog = ReadsWhole asked old new
+Cause asked old new status.AmbiguousMatch = ReadsWhole asked old new
+Cause asked old new status.TooLong = ReadsWhole asked old new
+Cause asked old new status.BudgetSpent = ReadsWhole asked old new
 Cause asked old new status.TooBig = ReadsTooMuch asked new
 Cause asked old new status.ReadFault = FailsToRead asked old new
 Cause asked old new status.WriteFault = FailsToWrite old new

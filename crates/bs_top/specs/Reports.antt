@@ -29,6 +29,20 @@ pub record IsReport (p : Program) (m : MachineOf) (limit : ℕ) (said : Said) : 
   pub is_outcome : IsSerial p limit (machine_of fitted) (timed outcome)
   pub is_said : said ≡ reported outcome
 
+-- the outcome that the serial machine model gives
+pub record IsOutcomeOn (p : Program) (m : MachineOf) (limit : ℕ) (outcome : Outcome) : Type 0 where
+  pub fitted : Fitted
+  pub is_machine : machine_view fitted.machine ≡ m
+  pub is_fitted : fitted.chares ≡ p.chares
+  pub is_outcome : IsSerial p limit (machine_of fitted) (timed outcome)
+
+abbrev pub this_outcome : Outcome → Outcome
+this_outcome outcome = outcome
+
+abbrev pub outcome_on : Program → MachineOf → ℕ → Step Outcome
+outcome_on p m limit (Ok outcome) = IsOutcomeOn p m limit outcome
+outcome_on p m limit (Err stop) = ⊥
+
 abbrev pub serial_run : Program → MachineOf → ℕ → Step Said
 serial_run p m limit (Ok said) = IsReport p m limit said
 serial_run p m limit (Err stop) = ⊥

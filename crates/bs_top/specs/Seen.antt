@@ -7,7 +7,8 @@ use Rattle.bs_top.specs.declared.reply.Reply.{Reply}
 use Rattle.bs_top.specs.declared.reply.Target.{Target}
 use Rattle.bs_top.specs.declared.reply.Target.TheVariants as target
 use Rattle.bs_top.specs.Targets.{Note, TargetOf, output, errors, in_file}
-use Rattle.bs_top.specs.Words.{AreWaves, Asked, check, model, emulate, run, predict, trace, IsLimit}
+use Rattle.bs_top.specs.Words.{AreWaves, Asked, check, model, emulate, run, predict, trace, gen, trial, IsLimit}
+use Rattle.bs_words.specs.Generated.{IsGenerated}
 use Rattle.bs_words.specs.Machine.{word_of}
 use Rattle.bs_top.specs.Step.{Said}
 
@@ -18,8 +19,10 @@ asked_of (asked.Emulate program log limit) = emulate program.now log.now limit
 asked_of (asked.Run program machine limit waves) = run program.now (word_of machine) limit waves
 asked_of (asked.Predict log machine waves journal) = predict log.now (word_of machine) waves (option_map (λ name. name.now) journal)
 asked_of (asked.Trace log machine) = trace log.now (word_of machine)
+asked_of (asked.Gen generated) = gen generated
+asked_of (asked.Trial generated) = trial generated
 
--- the limit is one, and the number of waves is one
+-- the limit is one, and the number of waves is one, and so are the numbers of a program to generate
 abbrev pub HasLimit : AskedFor → Type 0
 HasLimit (asked.Check program) = Unit {0}
 HasLimit (asked.Model program machine limit) = IsLimit limit
@@ -27,6 +30,8 @@ HasLimit (asked.Emulate program log limit) = IsLimit limit
 HasLimit (asked.Run program machine limit waves) = IsLimit limit × AreWaves waves
 HasLimit (asked.Predict log machine waves journal) = AreWaves waves
 HasLimit (asked.Trace log machine) = Unit {0}
+HasLimit (asked.Gen generated) = IsGenerated generated
+HasLimit (asked.Trial generated) = IsGenerated generated
 
 abbrev pub target_of : Target → TargetOf
 target_of target.Output = output

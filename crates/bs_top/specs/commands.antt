@@ -5,3 +5,5 @@ pub mod Run
 pub mod Journal
 pub mod Predict
 pub mod Trace
+pub mod Gen
+pub mod Trial

@@ -3,11 +3,11 @@ ghost use Rattle.std.specs.Prelude.{◌≡◌, IfSome, option_map};
 ghost use Rattle.bs_top.specs.Seen.{HasLimit, asked_of};
 ghost use Rattle.bs_top.specs.Words.{AreWaves, IsLimit, asked_with, built as built_of};
 
-use bs_words::{Argument, Command, MachineWord, Verb, machine_word};
+use bs_words::{Argument, Command, Generated, MachineWord, Verb, asked_program, machine_word};
 
 /// A command that is built, with the name of the file of its program or its log, and what else it has: a
 /// machine, the name of the log's file, the limit of sizes, the number of waves, the name of the journal's
-/// file.
+/// file; or with a program to generate.
 #[derive(Clone, Copy, Drop)]
 pub(crate) enum Asked<'a> {
     Check(&'a str),
@@ -16,6 +16,8 @@ pub(crate) enum Asked<'a> {
     Run(&'a str, MachineWord<'a>, u64, Option<u64>),
     Predict(&'a str, MachineWord<'a>, Option<u64>, Option<&'a str>),
     Trace(&'a str, MachineWord<'a>),
+    Gen(Generated),
+    Trial(Generated),
 }
 
 /// What the command asks for, where it is built. It takes no memory.
@@ -82,6 +84,14 @@ fn with_names<'a>(options: Options<'a>, verb: Verb, names: &'a [Argument]) -> Op
         (Verb::Trace, [log, machine]) => {
             let machine = machine_word(machine.text())?;
             Some(Asked::Trace(log.text(), machine))
+        }
+        (Verb::Gen, [kind, chares, seed]) => {
+            let generated = asked_program(kind.text(), chares.text(), seed.text())?;
+            Some(Asked::Gen(generated))
+        }
+        (Verb::Trial, [kind, chares, seed]) => {
+            let generated = asked_program(kind.text(), chares.text(), seed.text())?;
+            Some(Asked::Trial(generated))
         }
         _ => None,
     }

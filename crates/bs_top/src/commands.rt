@@ -1,8 +1,10 @@
 // The commands, each with its steps up to the reply.
 pub(crate) mod check;
 pub(crate) mod emulate;
+pub(crate) mod generate;
 mod journal;
 pub(crate) mod model;
 pub(crate) mod predict;
 pub(crate) mod run;
 pub(crate) mod trace;
+pub(crate) mod trial;

@@ -74,7 +74,8 @@ pub(crate) fn machine<D: Desk>(
     }
 }
 
-fn flat_machine(alloc: Global, processors: u32, latency: u64) -> Result<Machine, Stopped>
+/// The machine of so many processors, from 1 to 65,536, that has this latency, from 1 to 2^38.
+pub(crate) fn flat_machine(alloc: Global, processors: u32, latency: u64) -> Result<Machine, Stopped>
     ensures kind { Computes result }
     ensures told { Told machine_view (gives (or_bad_machine (flat_in processors latency))) result }
 {
@@ -106,8 +107,8 @@ pub(crate) fn accepted<D: Desk>(
     accept(alloc, program)
 }
 
-// The program that a text spells.
-fn program_of_text(alloc: Global, text: &[u8]) -> Result<Program, Stopped>
+/// The program that a text spells.
+pub(crate) fn program_of_text(alloc: Global, text: &[u8]) -> Result<Program, Stopped>
     ensures kind { Computes result }
     ensures spelled { IfOk result HasText }
     ensures whole { IfOk result IsWhole }
@@ -117,7 +118,8 @@ fn program_of_text(alloc: Global, text: &[u8]) -> Result<Program, Stopped>
     Ok(parse(alloc, text)?)
 }
 
-fn accept(alloc: Global, program: Program) -> Result<Accepted, Stopped>
+/// The program, where it keeps all rules of the language.
+pub(crate) fn accept(alloc: Global, program: Program) -> Result<Accepted, Stopped>
     requires { IsWhole program }
     ensures kind { Computes result }
     ensures program { IfOk result (λ accepted. accepted.program ≡ program) }

@@ -9,11 +9,13 @@ ghost use Rattle.bs_semantics.specs.Verdict.{IsVerdict, clean};
 ghost use Rattle.bs_tree.specs.declared.tree.Program.{Program};
 ghost use Rattle.bs_top.specs.Answer.{Answer, IsAnswer, answer_of};
 ghost use Rattle.bs_top.specs.commands.Check.{printed};
-ghost use Rattle.bs_top.specs.Complete.{CanEmulate, CanForetell, CanPredict, CanRun, Ends, HasProgram, IsAmple, IsAmpleFor, IsJournaled, IsPredicted, IsReported, IsTraced, logged_in};
+ghost use Rattle.bs_top.specs.commands.Gen.{generated};
+ghost use Rattle.bs_top.specs.Complete.{CanEmulate, CanForetell, CanPredict, CanRun, CanTry, Ends, HasProgram, IsAmple, IsAmpleFor, IsJournaled, IsPredicted, IsReported, IsTraced, IsTried, logged_in};
 ghost use Rattle.bs_top.specs.Known.{Known, SomeLaws};
 ghost use Rattle.bs_top.specs.Performs.{Answers};
-ghost use Rattle.bs_top.specs.Words.{Asked, IsLimit, asked_by, check, emulate, model, predict, run, trace};
+ghost use Rattle.bs_top.specs.Words.{Asked, IsLimit, asked_by, check, emulate, gen, model, predict, run, trace, trial};
 ghost use Rattle.bs_words.specs.Machine.{MachineWord};
+ghost use Rattle.bs_words.specs.declared.generated.Generated.{Generated};
 ghost use Rattle.bs_top.specs.declared.status.Status.{Status};
 
 // The laws of the crates below that those here rest on.
@@ -84,9 +86,13 @@ pub fn some_answer()
 /// Where the program's verdict at the limit is Clean, the answer to `emulate` is the text of the log of
 /// its Clean round for the log's file, with the status of the log's end (`emulate`).
 ///
+/// The answer to `gen` is the text of the program (`generate`). Where this text spells a program that keeps all
+/// rules, and its verdict at the greatest limit is Clean, the answer to `trial` is the line of an outcome that
+/// the serial machine model gives on the flat machine of 64 processors with latency 10 (`trial`).
+///
 /// So a call that answers such a command over such files writes these texts whole and ends with that
 /// status, or its status is read fault, write fault or want of memory (`checks`, `models`,
-/// `runs`, `emulates`, `predicts`, `journals`, `traces`). When the first two come is said by the clause
+/// `runs`, `emulates`, `predicts`, `journals`, `traces`, `generates`, `trials`). When the first two come is said by the clause
 /// `cause` of `perform_alone`.
 pub fn complete()
     ensures check { (files : Files) (name : List ℕ) (p : Program) (a : Answer) → HasProgram files name p → IsAnswer files (Some (check name)) a → a ≡ answer_of (Ok (printed p)) }
@@ -96,6 +102,8 @@ pub fn complete()
     ensures predict { (files : Files) (name : List ℕ) (word : MachineWord) (waves : Option ℕ) (kept : Log) (m : MachineOf) (a : Answer) → CanPredict files name word kept m → IsAmple waves kept → IsAnswer files (Some (predict name word waves None)) a → IsPredicted kept m a }
     ensures journal { (files : Files) (name into : List ℕ) (word : MachineWord) (waves : Option ℕ) (kept : Log) (m : MachineOf) (a : Answer) → CanPredict files name word kept m → IsAmple waves kept → IsAnswer files (Some (predict name word waves (Some into))) a → IsJournaled waves into kept m a }
     ensures trace { (files : Files) (name : List ℕ) (word : MachineWord) (kept : Log) (m : MachineOf) (a : Answer) → CanPredict files name word kept m → IsAnswer files (Some (trace name word)) a → IsTraced kept m a }
+    ensures generate { (files : Files) (program : Generated) (a : Answer) → IsAnswer files (Some (gen program)) a → a ≡ answer_of (Ok (generated program)) }
+    ensures trial { (files : Files) (program : Generated) (p : Program) (m : MachineOf) (a : Answer) → CanTry program p m → IsAnswer files (Some (trial program)) a → IsTried program p m a }
     ensures checks { (files : Files) (name : List ℕ) (p : Program) (old new : Outside) (s : Status) → HasProgram files name p → Answers files (Some (check name)) old new s → Ends (λ a. a ≡ answer_of (Ok (printed p))) old new s }
     ensures models { (files : Files) (name : List ℕ) (word : MachineWord) (limit : ℕ) (p : Program) (m : MachineOf) (old new : Outside) (s : Status) → CanRun files name word limit p m → Answers files (Some (model name word limit)) old new s → Ends (IsReported p m limit) old new s }
     ensures runs { (files : Files) (name : List ℕ) (word : MachineWord) (limit : ℕ) (waves : Option ℕ) (p : Program) (m : MachineOf) (old new : Outside) (s : Status) → CanRun files name word limit p m → IsAmpleFor waves p limit → Answers files (Some (run name word limit waves)) old new s → Ends (IsReported p m limit) old new s }
@@ -103,6 +111,8 @@ pub fn complete()
     ensures predicts { (files : Files) (name : List ℕ) (word : MachineWord) (waves : Option ℕ) (kept : Log) (m : MachineOf) (old new : Outside) (s : Status) → CanPredict files name word kept m → IsAmple waves kept → Answers files (Some (predict name word waves None)) old new s → Ends (IsPredicted kept m) old new s }
     ensures journals { (files : Files) (name into : List ℕ) (word : MachineWord) (waves : Option ℕ) (kept : Log) (m : MachineOf) (old new : Outside) (s : Status) → CanPredict files name word kept m → IsAmple waves kept → Answers files (Some (predict name word waves (Some into))) old new s → Ends (IsJournaled waves into kept m) old new s }
     ensures traces { (files : Files) (name : List ℕ) (word : MachineWord) (kept : Log) (m : MachineOf) (old new : Outside) (s : Status) → CanPredict files name word kept m → Answers files (Some (trace name word)) old new s → Ends (IsTraced kept m) old new s }
+    ensures generates { (files : Files) (program : Generated) (old new : Outside) (s : Status) → Answers files (Some (gen program)) old new s → Ends (λ a. a ≡ answer_of (Ok (generated program))) old new s }
+    ensures trials { (files : Files) (program : Generated) (p : Program) (m : MachineOf) (old new : Outside) (s : Status) → CanTry program p m → Answers files (Some (trial program)) old new s → Ends (IsTried program p m) old new s }
 {
     known();
 }

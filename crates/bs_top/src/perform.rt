@@ -11,10 +11,12 @@ ghost use Rattle.bs_top.specs.Words.{asked_by};
 use crate::asked::{Asked, built};
 use crate::commands::check::check_text;
 use crate::commands::emulate::emulate;
+use crate::commands::generate::generated_text;
 use crate::commands::model::model;
 use crate::commands::predict::predict;
 use crate::commands::run::run;
 use crate::commands::trace::trace;
+use crate::commands::trial::trial;
 use crate::reply::Reply;
 use crate::status::{Status, status_of};
 use crate::stopped::Stopped;
@@ -61,6 +63,8 @@ fn reply<D: Desk>(alloc: Global, words: &[String], desk: &mut D) -> Result<Reply
             predict(alloc, desk, name, word, waves, journal)
         }
         Some(Asked::Trace(name, word)) => trace(alloc, desk, name, word),
+        Some(Asked::Gen(program)) => Ok(generated_text(alloc, program)?),
+        Some(Asked::Trial(program)) => trial(alloc, program),
         None => Err(Stopped::Refused(Fault::BadWords)),
     }
 }

@@ -6,3 +6,4 @@ mod outside;
 mod programs;
 mod refusals;
 mod session;
+mod workloads;

@@ -12,11 +12,12 @@ ghost use Rattle.bs_top.specs.Answer.{reply_to};
 ghost use Rattle.bs_top.specs.Causes.{StepCause};
 ghost use Rattle.bs_top.specs.Computing.{Computes};
 ghost use Rattle.bs_top.specs.Inputs.{file_limit};
+ghost use Rattle.bs_top.specs.Reports.{outcome_on, this_outcome};
 ghost use Rattle.bs_top.specs.Seen.{said_of};
 ghost use Rattle.bs_top.specs.Step.{Told};
 ghost use Rattle.bs_top.specs.Verdicts.{logged};
 ghost use Rattle.bs_top.specs.Words.{AreWaves, IsLimit, run as run_asked};
-ghost use Rattle.bs_top.specs.commands.Run.{ran};
+ghost use Rattle.bs_top.specs.commands.Run.{by_log, ran};
 
 use crate::inputs::{FILE_LIMIT, accepted, fit, machine};
 use crate::reply::Reply;
@@ -70,11 +71,30 @@ fn run_log(
     ensures kind { Computes result }
     ensures told { Told said_of (ran waves accepted.now.program (machine_view machine) limit) result }
 {
+    let outcome = outcome_by_log(alloc, accepted, machine, limit, waves)?;
+    Ok(report_of(alloc, &outcome)?)
+}
+
+/// The outcome of a program on a machine, by way of its log at a limit of sizes, within a number of waves where
+/// one is given. It is that of the serial machine model.
+pub(crate) fn outcome_by_log(
+    alloc: Global,
+    accepted: &Accepted,
+    machine: Machine,
+    limit: u64,
+    waves: Option<u64>,
+) -> Result<Outcome, Stopped>
+    requires chares { (1 ≤ accepted.now.program.chares) × (accepted.now.program.chares ≤ 65536) }
+    requires limit { IsLimit limit }
+    requires waves { AreWaves waves }
+    ensures kind { Computes result }
+    ensures told { Told this_outcome (by_log waves accepted.now.program (machine_view machine) limit (outcome_on accepted.now.program (machine_view machine) limit)) result }
+    ensures reportable { IfOk result IsReportable }
+{
     let fitted = fit(machine, accepted.chares())?;
     let log = log_at(alloc, accepted, limit)?;
     let times = times_within(alloc, &log, &fitted, waves)?;
-    let outcome = serial_outcome(alloc, accepted, &log, &fitted, &times, limit)?;
-    Ok(report_of(alloc, &outcome)?)
+    Ok(serial_outcome(alloc, accepted, &log, &fitted, &times, limit)?)
 }
 
 // The outcome of the log of a program whose verdict is Clean, which is what the serial machine model

@@ -1,9 +1,11 @@
 use Rattle.std.proofs.Common.{◌≡◌, None, Ok, Some}
 use Rattle.bs_top.specs.Answer.{answer_of}
 use Rattle.bs_top.specs.commands.Check.{printed}
-use Rattle.bs_top.specs.Complete.{IsJournaled, IsPredicted, IsReported, IsTraced, logged_in}
-use Rattle.bs_top.specs.Words.{check, model, emulate, run, predict, trace}
+use Rattle.bs_top.specs.commands.Gen.{generated}
+use Rattle.bs_top.specs.Complete.{IsJournaled, IsPredicted, IsReported, IsTraced, IsTried, logged_in}
+use Rattle.bs_top.specs.Words.{check, model, emulate, run, predict, trace, gen, trial}
 use Rattle.bs_top.proofs.Completing.{checks, emulates, ends, journals, predicts, reports, reports_run, traces}
+use Rattle.bs_top.proofs.CompletingTrials.{gens, tries}
 use Rattle.bs_top.proofs.laws.complete.Goals as goal
 
 pub returns-clause-check : goal.returns-clause-check
@@ -54,3 +56,17 @@ returns-clause-journals c files name into word waves kept m old new s can ample 
 pub returns-clause-traces : goal.returns-clause-traces
 returns-clause-traces c files name word kept m old new s can =
     ends files (Some (trace name word)) (IsTraced kept m) (λ a is. returns-clause-trace c files name word kept m a can is) old new s
+
+pub returns-clause-generate : goal.returns-clause-generate
+returns-clause-generate c files program a = gens files c.known.ensures program a
+
+pub returns-clause-trial : goal.returns-clause-trial
+returns-clause-trial c files program p m a = tries files c.known.ensures program p m a
+
+pub returns-clause-generates : goal.returns-clause-generates
+returns-clause-generates c files program old new s =
+    ends files (Some (gen program)) (λ a. a ≡ answer_of (Ok (generated program))) (λ a is. returns-clause-generate c files program a is) old new s
+
+pub returns-clause-trials : goal.returns-clause-trials
+returns-clause-trials c files program p m old new s can =
+    ends files (Some (trial program)) (IsTried program p m) (λ a is. returns-clause-trial c files program p m a can is) old new s

@@ -1,8 +1,9 @@
 use Rattle.std.proofs.Common.{map, string_bytes, refl}
 use Rattle.bs_top.specs.Seen.{said_of}
+use Rattle.bs_top.specs.declared.reply.Reply.{Reply}
 use Rattle.bs_top.specs.Words.{asked_by}
 use Rattle.bs_top.proofs.Stages.{each}
-use Rattle.bs_top.proofs.Causing.{told_cause}
+use Rattle.bs_top.proofs.Causing.{no_file, read_fault, refused_cause, told_cause}
 use Rattle.bs_top.proofs.Counting.{never_fall, only_read, refuses_count, tells_count}
 use Rattle.bs_top.proofs.Told.{said_reply, said_refusal, said_nothing}
 use Rattle.bs_top.proofs.perform.perform_alone.Goals as goal
@@ -10,9 +11,25 @@ use Rattle.bs_top.proofs.perform.perform_alone.Goals as goal
 pub returns-in-Ok-clause-cause : goal.returns-in-Ok-clause-cause
 returns-in-Ok-clause-cause g c =
     let said = said_of c.in-Ok.reply in
-    told_cause (asked_by (map string_bytes c.args.words.now)) (g.D.Desk.world c.args.desk.now) (g.D.Desk.world c.tell.new.desk)
-    (g.D.Desk.world c.reply.new.desk) c.in-Ok.ensures.cause.0 c.in-Ok.ensures.cause.1 c.in-Ok.ensures.reading said.ending said.note said.target said.text
+    told_cause (asked_by (map string_bytes c.args.words.now)) (g.D.Desk.world c.args.desk.now) (g.D.Desk.world c.reply.new.desk)
+    (g.D.Desk.world c.tell.new.desk) c.in-Ok.ensures.reading c.in-Ok.reply c.in-Ok.ensures.cause said.ending said.note said.target said.text
     c.tell.result c.written_status.result c.status_of.result c.tell.ensures c.status_of.ensures c.written_status.ensures
+
+pub returns-in-Err-Refused-clause-cause : goal.returns-in-Err-Refused-clause-cause
+returns-in-Err-Refused-clause-cause g c =
+    refused_cause (asked_by (map string_bytes c.args.words.now)) (g.D.Desk.world c.args.desk.now) (g.D.Desk.world c.reply.new.desk)
+    (g.D.Desk.world c.refuse.new.desk) c.in-Err-Refused.ensures.reading Reply c.in-Err-Refused.fault c.refuse.result
+    (rw c.in-Err-Refused.field-0-is at c.in-Err-Refused.ensures.cause) c.refuse.ensures
+
+pub returns-in-Err-NoFile-clause-cause : goal.returns-in-Err-NoFile-clause-cause
+returns-in-Err-NoFile-clause-cause g c =
+    no_file Reply (g.D.Desk.world c.args.desk.now) (g.D.Desk.world c.reply.new.desk) (asked_by (map string_bytes c.args.words.now))
+    (rw c.in-Err-NoFile.field-0-is at c.in-Err-NoFile.ensures.cause)
+
+pub returns-in-Err-ReadFault-clause-cause : goal.returns-in-Err-ReadFault-clause-cause
+returns-in-Err-ReadFault-clause-cause g c =
+    read_fault Reply (g.D.Desk.world c.args.desk.now) (g.D.Desk.world c.reply.new.desk) (asked_by (map string_bytes c.args.words.now))
+    (rw c.in-Err-ReadFault.field-0-is at c.in-Err-ReadFault.ensures.cause)
 
 pub returns-in-Ok-clause-told : goal.returns-in-Ok-clause-told
 returns-in-Ok-clause-told g c =
