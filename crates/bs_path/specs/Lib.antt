@@ -1,0 +1,5 @@
+pub mod Chain
+pub mod Sound
+pub mod Ended
+pub mod Checked
+pub mod Text
