@@ -25,11 +25,12 @@ use Rattle.bs_top.specs.commands.Check.{printed}
 use Rattle.bs_top.specs.commands.Run.{ran}
 use Rattle.bs_top.specs.Reports.{serial_run, timed_on}
 use Rattle.bs_top.specs.commands.Model.{simulated}
+use Rattle.bs_top.specs.commands.Chain.{chain_on, chained}
 use Rattle.bs_top.specs.commands.Trace.{trace_on, traced}
-use Rattle.bs_top.specs.Complete.{CanEmulate, CanPredict, CanRun, Ends, HasFile, HasLog, HasMachine, HasProgram, IsAmple, IsAmpleFor, IsJournaled, IsPredicted, IsReported, IsTraced, logged_in}
+use Rattle.bs_top.specs.Complete.{CanEmulate, CanPredict, CanRun, Ends, HasFile, HasLog, HasMachine, HasProgram, IsAmple, IsAmpleFor, IsChained, IsJournaled, IsPredicted, IsReported, IsTraced, logged_in}
 use Rattle.bs_top.specs.Performs.{Answers, WritesAnswer}
 use Rattle.bs_top.specs.Step.{Said, Step, and_then}
-use Rattle.bs_top.specs.Words.{Asked, check, model, emulate, run, predict, trace}
+use Rattle.bs_top.specs.Words.{Asked, check, model, emulate, run, predict, trace, chain}
 use Rattle.bs_words.specs.Machine.{MachineWord, flat, file}
 use Rattle.bs_top.specs.Known.{Known}
 use Rattle.bs_top.proofs.OneAnswer.{one_accepted, one_contents, one_fit, one_judged, one_logged, one_named, one_reply}
@@ -66,6 +67,10 @@ is_journal waves into kept m ample (Err stop) a h is = absurd h
 is_trace : (kept : Log) (m : MachineOf) (r : Result Said Stopped) (a : Answer) → trace_on kept m r → a ≡ answer_of r → IsTraced kept m a
 is_trace kept m (Ok said) a h is = (said, h, is)
 is_trace kept m (Err stop) a h is = absurd h
+
+is_chain : (kept : Log) (m : MachineOf) (r : Result Said Stopped) (a : Answer) → chain_on kept m r → a ≡ answer_of r → IsChained kept m a
+is_chain kept m (Ok said) a h is = (said, h, is)
+is_chain kept m (Err stop) a h is = absurd h
 
 module _ (files : Files) where
   reads : (name bytes : List ℕ) → HasFile files name bytes → contents file_limit files name (Ok bytes)
@@ -180,6 +185,10 @@ module _ (files : Files) where
     unfolding traced
     with_trace kept m r fit h = past (fits kept.chares m) (λ _. trace_on kept m) (one_fit kept.chares m) tt (fitting kept.chares m fit) r h
 
+    with_chain : (kept : Log) (m : MachineOf) (r : Result Said Stopped) → has_length m.place kept.chares ≡ true → chained kept m r → chain_on kept m r
+    unfolding chained
+    with_chain kept m r fit h = past (fits kept.chares m) (λ _. chain_on kept m) (one_fit kept.chares m) tt (fitting kept.chares m fit) r h
+
     -- past the log and the machine
     on_both : (name : List ℕ) (word : MachineWord) (next : Log → MachineOf → Step Said) (kept : Log) (m : MachineOf) (r : Result Said Stopped)
         → CanPredict files name word kept m → and_then (log_named files name) (λ kept. and_then (machine_named files word) (λ m. next kept m)) r → next kept m r
@@ -209,6 +218,13 @@ module _ (files : Files) where
 
     pub traces : (name : List ℕ) (word : MachineWord) (kept : Log) (m : MachineOf) (a : Answer) → CanPredict files name word kept m → IsAnswer files (Some (trace name word)) a → IsTraced kept m a
     traces name word kept m a can is = is_trace kept m is.reply a (with_trace kept m is.reply can.is_fitting (traces_on name word kept m is.reply can is.is_reply)) is.is_answer
+
+    chains_on : (name : List ℕ) (word : MachineWord) (kept : Log) (m : MachineOf) (r : Result Said Stopped) → CanPredict files name word kept m → reply_to files (Some (chain name word)) r → chained kept m r
+    unfolding reply_to
+    chains_on name word kept m r can h = on_both name word chained kept m r can h
+
+    pub chains : (name : List ℕ) (word : MachineWord) (kept : Log) (m : MachineOf) (a : Answer) → CanPredict files name word kept m → IsAnswer files (Some (chain name word)) a → IsChained kept m a
+    chains name word kept m a can is = is_chain kept m is.reply a (with_chain kept m is.reply can.is_fitting (chains_on name word kept m is.reply can is.is_reply)) is.is_answer
 
 -- what holds of each answer holds of the one that was written
 module _ (files : Files) (asked : Option Asked) (P : Answer → Type 0) (each : (a : Answer) → IsAnswer files asked a → P a) (old new : Outside) where

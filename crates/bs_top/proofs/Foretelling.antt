@@ -16,13 +16,14 @@ use Rattle.bs_top.specs.Inputs.{contents, fits, log_in, log_limit, log_named, ma
 use Rattle.bs_top.specs.commands.Predict.{predicted_with, predicted}
 use Rattle.bs_top.specs.commands.Journal.{journaled, journaled_on}
 use Rattle.bs_top.specs.Answer.{reply_to}
+use Rattle.bs_top.specs.commands.Chain.{chain_on, chained}
 use Rattle.bs_top.specs.commands.Trace.{trace_on, traced}
 use Rattle.bs_top.specs.Waves.{within}
 use Rattle.bs_top.specs.Seen.{said_of}
 use Rattle.bs_top.specs.Step.{Said, Step, Told, and_then}
 use Rattle.bs_top.specs.Stopped.{stopped_for_log}
 use Rattle.bs_words.specs.Machine.{MachineWord}
-use Rattle.bs_top.specs.Words.{predict, trace}
+use Rattle.bs_top.specs.Words.{chain, predict, trace}
 use Rattle.bs_top.proofs.Machines.{items}
 use Rattle.bs_top.proofs.Simulating.{this_log}
 use Rattle.bs_top.proofs.AsModel.{nothing, stopped_at}
@@ -45,6 +46,10 @@ module _ (kept : Log) (m : MachineOf) where
   unfolding journaled
   unfit_journal waves into stop h = stops (λ (f : Fitted). tt) said_of (fits kept.chares m) (λ _. journaled_on waves into kept m) stop h
 
+  pub unfit_chain : (stop : Stopped) → Told (λ (f : Fitted). tt) (fits kept.chares m) (Err stop) → Told said_of (chained kept m) (Err stop)
+  unfolding chained
+  unfit_chain stop h = stops (λ (f : Fitted). tt) said_of (fits kept.chares m) (λ _. chain_on kept m) stop h
+
   pub unfit_trace : (stop : Stopped) → Told (λ (f : Fitted). tt) (fits kept.chares m) (Err stop) → Told said_of (traced kept m) (Err stop)
   unfolding traced
   unfit_trace stop h = stops (λ (f : Fitted). tt) said_of (fits kept.chares m) (λ _. trace_on kept m) stop h
@@ -56,6 +61,13 @@ module _ (kept : Log) (m : MachineOf) where
   unbound_trace NoFile e = no_refusal NoFile e
   unbound_trace ReadFault e = tt
   unbound_trace Memory e = tt
+
+  pub unbound_chain : (stop : Stopped) → Told (λ (t : Times). tt) (within None kept m) (Err stop) → Told said_of (chained kept m) (Err stop)
+  unfolding within
+  unbound_chain (Refused why) e = no_refusal (Refused why) e
+  unbound_chain NoFile e = no_refusal NoFile e
+  unbound_chain ReadFault e = tt
+  unbound_chain Memory e = tt
 
   module _ (fit : fits kept.chares m (Ok tt)) where
     pub spends : (waves : Option ℕ) (stop : Stopped) → Told (λ (t : Times). tt) (within waves kept m) (Err stop) → Told said_of (predicted waves kept m) (Err stop)
@@ -74,6 +86,10 @@ module _ (kept : Log) (m : MachineOf) where
     pub traces : (said : Said) → trace_on kept m (Ok said) → traced kept m (Ok said)
     unfolding traced
     traces said is = (tt, fit, is)
+
+    pub chains : (said : Said) → chain_on kept m (Ok said) → chained kept m (Ok said)
+    unfolding chained
+    chains said is = (tt, fit, is)
 
 -- the log of a file and the machine of a word, and what comes of both
 abbrev pub on_log_and : Files → List ℕ → MachineWord → (Log → MachineOf → Step Said) → Step Said
@@ -106,6 +122,10 @@ module _ (files : Files) (name : List ℕ) where
       → Told said_of (reply_to files (Some (predict name word waves journal))) r
   unfolding reply_to
   told_predict word waves journal r h = h
+
+  pub told_chain : (word : MachineWord) (r : Result Reply Stopped) → Told said_of (on_log_and files name word chained) r → Told said_of (reply_to files (Some (chain name word))) r
+  unfolding reply_to
+  told_chain word r h = h
 
   pub told_trace : (word : MachineWord) (r : Result Reply Stopped) → Told said_of (on_log_and files name word traced) r → Told said_of (reply_to files (Some (trace name word))) r
   unfolding reply_to

@@ -25,17 +25,18 @@ use Rattle.bs_top.specs.commands.Gen.{generated}
 use Rattle.bs_top.specs.commands.Check.{printed}
 use Rattle.bs_top.specs.commands.Run.{by_log, ran}
 use Rattle.bs_top.specs.commands.Model.{simulated}
+use Rattle.bs_top.specs.commands.Chain.{chained}
 use Rattle.bs_top.specs.commands.Trace.{traced}
 use Rattle.bs_top.specs.commands.Trial.{trial_limit, tried, tried_as}
 use Rattle.bs_top.specs.Waves.{within}
 use Rattle.bs_top.specs.Step.{Said, Step, and_then, gives}
-use Rattle.bs_top.specs.Words.{Asked, check as check_asked, model, emulate, run, predict, trace, gen, trial}
+use Rattle.bs_top.specs.Words.{Asked, check as check_asked, model, emulate, run, predict, trace, chain, gen, trial}
 use Rattle.bs_gen.specs.Programs.{workload_text}
 use Rattle.bs_words.specs.Machine.{MachineWord, flat, file}
 use Rattle.bs_words.specs.declared.generated.Generated.{Generated}
 use Rattle.bs_top.specs.Known.{Known}
 use Rattle.bs_top.proofs.OneMachine.{one_machine}
-use Rattle.bs_top.proofs.OneLog.{one_foretold, one_log, one_traced, one_within, valid_log}
+use Rattle.bs_top.proofs.OneLog.{one_chained, one_foretold, one_log, one_traced, one_within, valid_log}
 use Rattle.bs_top.proofs.Simulating.{histories_of}
 use Rattle.bs_top.proofs.OneStep.{IsOne, one_after, one_given, one_where}
 
@@ -172,6 +173,9 @@ module _ (known : Known) where
   one_reply files (Some (trace name word)) =
       one_where (log_named files name) (λ kept. and_then (machine_named files word) (λ m. traced kept m)) (one_log known.logs files name (one_contents log_limit files name))
       (λ kept is. one_after (machine_named files word) (λ m. traced kept m) (one_named files word) (λ m. one_traced known.logs kept (valid_log files name kept is) m (one_fit kept.chares m)))
+  one_reply files (Some (chain name word)) =
+      one_where (log_named files name) (λ kept. and_then (machine_named files word) (λ m. chained kept m)) (one_log known.logs files name (one_contents log_limit files name))
+      (λ kept is. one_after (machine_named files word) (λ m. chained kept m) (one_named files word) (λ m. one_chained known.logs kept (valid_log files name kept is) m (one_fit kept.chares m)))
   one_reply files (Some (gen program)) = one_given (Ok (generated program))
   one_reply files (Some (trial program)) = one_tried program
 

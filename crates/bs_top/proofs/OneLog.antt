@@ -31,6 +31,8 @@ use Rattle.bs_top.specs.Inputs.{IsLogFault, contents, fits, log_in, log_limit, l
 use Rattle.bs_top.specs.Reports.{IsPrediction, reported, timed_on}
 use Rattle.bs_top.specs.commands.Predict.{predicted_with, predicted}
 use Rattle.bs_top.specs.commands.Journal.{journal_in, journaled, journaled_on}
+use Rattle.bs_path.specs.Chain.{IsCritical}
+use Rattle.bs_top.specs.commands.Chain.{chain_on, chain_said, chained}
 use Rattle.bs_top.specs.commands.Trace.{trace_on, traced}
 use Rattle.bs_top.specs.Targets.{errors, output}
 use Rattle.bs_top.specs.Step.{Said, and_then}
@@ -147,6 +149,17 @@ module _ (laws : LogLaws) where
     one_trace (Ok a) (Err s) h k = absurd k
     one_trace (Err r) s h k = absurd h
 
+    one_chain : IsOne (chain_on kept m)
+    one_chain (Ok a) (Ok b) h k =
+        let machine = one_machine k.fitted h.fitted (k.is_machine ∙ sym h.is_machine) (k.is_fitted ∙ sym h.is_fitted) in
+        let table = subst (λ m. IsConsistent (net_of kept m) k.starts) machine k.is_consistent in
+        let critical = subst (λ m. IsCritical (net_of kept m) k.starts k.chain) machine k.is_critical in
+        let net = net_of kept (machine_of h.fitted) in
+        let same = laws.chain net (comes_before (machine_of h.fitted) (laws.timely h.fitted)) h.starts k.starts h.is_consistent table h.chain k.chain h.is_critical critical in
+        ap (λ s. Ok s) (h.is_said ∙ ap (chain_said kept) same ∙ sym k.is_said)
+    one_chain (Ok a) (Err s) h k = absurd k
+    one_chain (Err r) s h k = absurd h
+
     module _ (one : IsOne (fits kept.chares m)) where
       one_predicted : (waves : Option ℕ) → IsOne (predicted waves kept m)
       unfolding predicted
@@ -164,6 +177,10 @@ module _ (laws : LogLaws) where
       pub one_traced : IsOne (traced kept m)
       unfolding traced
       one_traced = one_after (fits kept.chares m) (λ _. trace_on kept m) one (λ _. one_trace)
+
+      pub one_chained : IsOne (chained kept m)
+      unfolding chained
+      one_chained = one_after (fits kept.chares m) (λ _. chain_on kept m) one (λ _. one_chain)
 
 -- the log of a file is valid
 pub valid_log : (files : Files) (name : List ℕ) (kept : Log) → log_named files name (Ok kept) → IsValid kept

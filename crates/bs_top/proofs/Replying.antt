@@ -26,7 +26,7 @@ use Rattle.bs_top.specs.declared.asked.Asked.{Asked as AskedFor}
 use Rattle.bs_top.specs.Seen.{asked_of, said_of}
 use Rattle.bs_top.specs.Step.{Said, Step, Told, and_then, gives}
 use Rattle.bs_top.specs.Stopped.{stopped_for_words}
-use Rattle.bs_top.specs.Words.{Asked, check, model, emulate, run, predict, trace, gen, trial, built}
+use Rattle.bs_top.specs.Words.{Asked, check, model, emulate, run, predict, trace, chain, gen, trial, built}
 use Rattle.bs_words.specs.Machine.{MachineWord}
 use Rattle.bs_words.specs.declared.generated.Generated.{Generated}
 use Rattle.bs_tree.specs.declared.tree.Program.{Program}
@@ -48,6 +48,7 @@ AsksFor name (emulate n into limit) = name ≡ n
 AsksFor name (run n word limit waves) = name ≡ n
 AsksFor name (predict n word waves journal) = ⊥
 AsksFor name (trace n word) = ⊥
+AsksFor name (chain n word) = ⊥
 AsksFor name (gen program) = ⊥
 AsksFor name (trial program) = ⊥
 
@@ -91,6 +92,7 @@ module _ (files : Files) (name : List ℕ) where
       (stops program_of said_of (accepted files name) (λ p. and_then (machine_named files word) (λ m. ran waves p m limit)) stop h)
   not_accepted (predict n word waves journal) stop is h = absurd is
   not_accepted (trace n word) stop is h = absurd is
+  not_accepted (chain n word) stop is h = absurd is
   not_accepted (gen program) stop is h = absurd is
   not_accepted (trial program) stop is h = absurd is
 

@@ -47,7 +47,7 @@ use Rattle.bs_top.specs.Reports.{IsPrediction, outcome_on, reported, serial_run,
 use Rattle.bs_top.specs.Step.{Said, Step, and_then, gives}
 use Rattle.bs_top.specs.Verdicts.{if_clean, judged, log_if_clean, logged}
 use Rattle.bs_top.specs.Waves.{IsNetOn, most_waves, no_ticks, within}
-use Rattle.bs_top.specs.Words.{AreWaves, Asked, asked_by, asked_with, built, check as check_asked, emulate, gen, model, predict, run, trace, trial}
+use Rattle.bs_top.specs.Words.{AreWaves, Asked, asked_by, asked_with, built, chain, check as check_asked, emulate, gen, model, predict, run, trace, trial}
 use Rattle.bs_top.specs.commands.Check.{printed}
 use Rattle.bs_top.specs.commands.Emulate.{kept_in}
 use Rattle.bs_top.specs.commands.Journal.{journaled, journaled_on}
@@ -55,6 +55,7 @@ use Rattle.bs_top.specs.commands.Model.{simulated}
 use Rattle.bs_top.specs.commands.Predict.{predicted, predicted_with}
 use Rattle.bs_top.specs.commands.Gen.{generated}
 use Rattle.bs_top.specs.commands.Run.{by_log, ran}
+use Rattle.bs_top.specs.commands.Chain.{chain_on, chained}
 use Rattle.bs_top.specs.commands.Trace.{trace_on, traced}
 use Rattle.bs_top.specs.commands.Trial.{trial_limit, tried, tried_as}
 use Rattle.bs_top.specs.declared.stopped.Stopped.{Stopped}
@@ -151,6 +152,7 @@ HasWaves (Some (emulate name into limit)) = Unit {0}
 HasWaves (Some (run name word limit waves)) = AreWaves waves
 HasWaves (Some (predict name word waves journal)) = AreWaves waves
 HasWaves (Some (trace name word)) = Unit {0}
+HasWaves (Some (chain name word)) = Unit {0}
 HasWaves (Some (gen program)) = Unit {0}
 HasWaves (Some (trial program)) = Unit {0}
 
@@ -182,7 +184,10 @@ with_waves limit waves journal Trace [] w = tt
 with_waves limit waves journal Trace (a ∷ []) w = tt
 with_waves limit waves journal Trace (a ∷ b ∷ []) w = mapped (trace a) (machine_word b) (λ m. tt)
 with_waves limit waves journal Trace (a ∷ b ∷ c ∷ ds) w = tt
-with_waves limit waves journal Chain names w = tt
+with_waves limit waves journal Chain [] w = tt
+with_waves limit waves journal Chain (a ∷ []) w = tt
+with_waves limit waves journal Chain (a ∷ b ∷ []) w = mapped (chain a) (machine_word b) (λ m. tt)
+with_waves limit waves journal Chain (a ∷ b ∷ c ∷ ds) w = tt
 with_waves limit waves journal Gen [] w = tt
 with_waves limit waves journal Gen (a ∷ []) w = tt
 with_waves limit waves journal Gen (a ∷ b ∷ []) w = tt
@@ -372,6 +377,16 @@ module _ (known : Known) (some : SomeLaws) where
     unfolding traced
     some_traced = some_after (fits log.chares m) (λ _. trace_on log m) (some_fit log.chares m) (λ _ fitting. some_trace (fit fitting))
 
+    some_chain : FittedTo m log.chares → Gives (chain_on log m)
+    some_chain f =
+        let table = some.table log (machine_of f.0) valid (known.logs.timely f.0) in
+        let chain = some.chain log (machine_of f.0) valid (known.logs.timely f.0) table.0 table.1 in
+        (Ok _, record { fitted = f.0; starts = table.0; chain = chain.0; is_machine = f.1; is_fitted = f.2; is_consistent = table.1; is_critical = chain.1; is_said = refl })
+
+    some_chained : Gives (chained log m)
+    unfolding chained
+    some_chained = some_after (fits log.chares m) (λ _. chain_on log m) (some_fit log.chares m) (λ _ fitting. some_chain (fit fitting))
+
   -- ---- commands
 
   program_fits : (files : Files) (name : List ℕ) (p : Program) → accepted files name (Ok p) → (word : MachineWord) (m : MachineOf) → machine_named files word (Ok m) → CanFit m p.chares
@@ -401,6 +416,9 @@ module _ (known : Known) (some : SomeLaws) where
   some_reply files (Some (trace name word)) w =
       some_after (log_named files name) (λ log. and_then (machine_named files word) (λ m. traced log m)) (some_log files name)
       (λ log is. some_after (machine_named files word) (λ m. traced log m) (some_named files word) (λ m named. some_traced log (valid_log files name log is) m (log_fits files name log is word m named)))
+  some_reply files (Some (chain name word)) w =
+      some_after (log_named files name) (λ log. and_then (machine_named files word) (λ m. chained log m)) (some_log files name)
+      (λ log is. some_after (machine_named files word) (λ m. chained log m) (some_named files word) (λ m named. some_chained log (valid_log files name log is) m (log_fits files name log is word m named)))
   some_reply files (Some (gen program)) w = some_given (Ok (generated program))
   some_reply files (Some (trial program)) w = some_tried program
 

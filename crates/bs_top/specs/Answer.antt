@@ -11,7 +11,8 @@ use Rattle.bs_top.specs.Inputs.{machine_named, accepted, log_named}
 use Rattle.bs_top.specs.Step.{Step, Said, gives, ◌>>=◌}
 use Rattle.bs_top.specs.Targets.{Note, TargetOf, errors}
 use Rattle.bs_top.specs.Verdicts.{logged}
-use Rattle.bs_top.specs.Words.{Asked, check, model, emulate, run, predict, trace, gen, trial}
+use Rattle.bs_top.specs.Words.{Asked, check, model, emulate, run, predict, trace, chain, gen, trial}
+use Rattle.bs_top.specs.commands.Chain.{chained}
 use Rattle.bs_top.specs.commands.Check.{printed}
 use Rattle.bs_top.specs.commands.Emulate.{kept_in}
 use Rattle.bs_top.specs.commands.Gen.{generated}
@@ -53,6 +54,10 @@ reply_to files (Some (trace name word)) = do
   kept ← log_named files name
   machine ← machine_named files word
   traced kept machine
+reply_to files (Some (chain name word)) = do
+  kept ← log_named files name
+  machine ← machine_named files word
+  chained kept machine
 reply_to files (Some (gen program)) = gives (Ok (generated program))
 reply_to files (Some (trial program)) = tried program
 

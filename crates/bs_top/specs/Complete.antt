@@ -21,6 +21,7 @@ use Rattle.bs_top.specs.declared.status.Status.TheVariants as status
 use Rattle.bs_top.specs.Answer.{Answer, answer_of}
 use Rattle.bs_top.specs.commands.Journal.{IsJournal}
 use Rattle.bs_top.specs.Reports.{IsOutcomeOn, IsPrediction, IsReport}
+use Rattle.bs_top.specs.commands.Chain.{IsChaining}
 use Rattle.bs_top.specs.commands.Trace.{IsTracing}
 use Rattle.bs_top.specs.commands.Trial.{trial_limit, tried_as}
 use Rattle.bs_top.specs.Waves.{budget_of}
@@ -109,6 +110,10 @@ pub record CanTry (g : Generated) (p : Program) (m : MachineOf) : Type 0 where
 -- the answer is the line of an outcome that the serial machine model gives
 abbrev pub IsTried : Generated → Program → MachineOf → Answer → Type 0
 IsTried g p m answer = (outcome : Outcome) × IsOutcomeOn p m trial_limit outcome × (answer ≡ answer_of (Ok (tried_as g outcome)))
+
+-- the answer is the critical chain of the log on the machine at the log's one consistent table
+abbrev pub IsChained : Log → MachineOf → Answer → Type 0
+IsChained kept m answer = (said : Said) × IsChaining kept m said × (answer ≡ answer_of (Ok said))
 
 -- no number of waves is given, or one that is enough for the log on every machine
 abbrev pub IsAmple : Option ℕ → Log → Type 0

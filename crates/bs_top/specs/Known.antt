@@ -12,6 +12,8 @@ use Rattle.bs_machine.specs.File.{machine_in}
 use Rattle.bs_machine.specs.Machine.{MachineOf, flat_in, machine_view}
 use Rattle.bs_machine.specs.declared.fitted.Fitted.{Fitted}
 use Rattle.bs_net.specs.Home.{has_length}
+use Rattle.bs_path.specs.Chain.{IsCritical}
+use Rattle.bs_path.specs.declared.links.Chain.{Chain}
 use Rattle.bs_parse.specs.TextLaws.{NotBoth, OneFault, OneProgram, SomeAnswer}
 use Rattle.bs_semantics.specs.Serial.{IsSerial, Machine, Simulated, unclean}
 use Rattle.bs_semantics.specs.Verdict.{IsVerdict, clean, Verdict}
@@ -45,6 +47,7 @@ pub record LogLaws : Type 0 where
   pub spent : (net : Net) → Causal net → (estimates : Ticks) (most : ℕ) (s z : BudgetSpent) → IsSpent net estimates most s → IsSpent net estimates most z → s ≡ z
   pub either : (net : Net) → Causal net → (estimates : Ticks) (most : ℕ) (s : BudgetSpent) → IsSpent net estimates most s → StillAt net estimates most → ⊥
   pub noting : (net : Net) → Causal net → (estimates : Ticks) (most : ℕ) (a b : List (List Correction)) (p q : Bool) → AreNoted net estimates most a p → AreNoted net estimates most b q → (a ≡ b) × (p ≡ q)
+  pub chain : (net : Net) → Causal net → (s z : Starts) → IsConsistent net s → IsConsistent net z → (c d : Chain) → IsCritical net s c → IsCritical net z d → c ≡ d
   pub outcome : (log : Log) (machine : Machine) → IsValid log → IsTimely machine → (s z : Starts) → IsConsistent (net_of log machine) s → IsConsistent (net_of log machine) z → outcome_of log machine s ≡ outcome_of log machine z
 
 -- all of it
@@ -64,6 +67,7 @@ pub record SomeLaws : Type 0 where
   pub serial : (p : Program) (limit : ℕ) (m : Machine) → (r : Simulated) × IsSerial p limit m r
   pub clean_run : (p : Program) (limit : ℕ) (m : Machine) (v : Verdict) → IsVerdict p limit v → IsSerial p limit m unclean → (hs : List History) → v ≡ clean hs → ⊥
   pub table : (log : Log) (machine : Machine) → IsValid log → IsTimely machine → (s : Starts) × IsConsistent (net_of log machine) s
+  pub chain : (log : Log) (machine : Machine) → IsValid log → IsTimely machine → (s : Starts) → IsConsistent (net_of log machine) s → (c : Chain) × IsCritical (net_of log machine) s c
   pub settling : (net : Net) → Causal net → (estimates : Ticks) (most : ℕ) → 1 ≤ most → StillAt net estimates most ⊎ ((s : BudgetSpent) × IsSpent net estimates most s)
   pub noting : (net : Net) → Causal net → (estimates : Ticks) (most : ℕ) → 1 ≤ most → (lists : List (List Correction)) × (settled : Bool) × AreNoted net estimates most lists settled
   pub moving : (net : Net) → Causal net → (estimates : Ticks) (most : ℕ) (lists : List (List Correction)) → AreNoted net estimates most lists false → StillAt net estimates most → ⊥

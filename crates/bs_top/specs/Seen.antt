@@ -7,7 +7,7 @@ use Rattle.bs_top.specs.declared.reply.Reply.{Reply}
 use Rattle.bs_top.specs.declared.reply.Target.{Target}
 use Rattle.bs_top.specs.declared.reply.Target.TheVariants as target
 use Rattle.bs_top.specs.Targets.{Note, TargetOf, output, errors, in_file}
-use Rattle.bs_top.specs.Words.{AreWaves, Asked, check, model, emulate, run, predict, trace, gen, trial, IsLimit}
+use Rattle.bs_top.specs.Words.{AreWaves, Asked, check, model, emulate, run, predict, trace, chain, gen, trial, IsLimit}
 use Rattle.bs_words.specs.Generated.{IsGenerated}
 use Rattle.bs_words.specs.Machine.{word_of}
 use Rattle.bs_top.specs.Step.{Said}
@@ -19,6 +19,7 @@ asked_of (asked.Emulate program log limit) = emulate program.now log.now limit
 asked_of (asked.Run program machine limit waves) = run program.now (word_of machine) limit waves
 asked_of (asked.Predict log machine waves journal) = predict log.now (word_of machine) waves (option_map (λ name. name.now) journal)
 asked_of (asked.Trace log machine) = trace log.now (word_of machine)
+asked_of (asked.Chain log machine) = chain log.now (word_of machine)
 asked_of (asked.Gen generated) = gen generated
 asked_of (asked.Trial generated) = trial generated
 
@@ -30,6 +31,7 @@ HasLimit (asked.Emulate program log limit) = IsLimit limit
 HasLimit (asked.Run program machine limit waves) = IsLimit limit × AreWaves waves
 HasLimit (asked.Predict log machine waves journal) = AreWaves waves
 HasLimit (asked.Trace log machine) = Unit {0}
+HasLimit (asked.Chain log machine) = Unit {0}
 HasLimit (asked.Gen generated) = IsGenerated generated
 HasLimit (asked.Trial generated) = IsGenerated generated
 

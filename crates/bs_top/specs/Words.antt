@@ -6,7 +6,7 @@ use Rattle.bs_words.specs.Machine.{MachineWord, machine_word}
 use Rattle.bs_words.specs.declared.generated.Generated.{Generated}
 use Rattle.bs_words.specs.declared.command.Command.{Command}
 use Rattle.bs_words.specs.declared.verb.Verb.{Verb}
-use Rattle.bs_words.specs.declared.verb.Verb.TheVariants.{Check, Model, Emulate, Predict, Run, Trace, Gen, Trial}
+use Rattle.bs_words.specs.declared.verb.Verb.TheVariants.{Check, Model, Emulate, Predict, Run, Trace, Chain, Gen, Trial}
 
 -- a limit of sizes is from 1 to 262,144
 abbrev pub IsLimit : ℕ → Type 0
@@ -25,6 +25,7 @@ pub data Asked : Type 0 where
   run : List ℕ → MachineWord → ℕ → Option ℕ → Asked
   predict : List ℕ → MachineWord → Option ℕ → Option (List ℕ) → Asked
   trace : List ℕ → MachineWord → Asked
+  chain : List ℕ → MachineWord → Asked
   gen : Generated → Asked
   trial : Generated → Asked
 
@@ -36,12 +37,13 @@ asked_with limit waves journal Emulate (program ∷ log ∷ []) = Some (emulate 
 asked_with limit waves journal Run (program ∷ machine ∷ []) = option_map (λ m. run program m limit waves) (machine_word machine)
 asked_with limit waves journal Predict (log ∷ machine ∷ []) = option_map (λ m. predict log m waves journal) (machine_word machine)
 asked_with limit waves journal Trace (log ∷ machine ∷ []) = option_map (trace log) (machine_word machine)
+asked_with limit waves journal Chain (log ∷ machine ∷ []) = option_map (chain log) (machine_word machine)
 asked_with limit waves journal Gen (kind ∷ chares ∷ seed ∷ []) = option_map gen (asked_program kind chares seed)
 asked_with limit waves journal Trial (kind ∷ chares ∷ seed ∷ []) = option_map trial (asked_program kind chares seed)
 asked_with _ _ _ _ _ = None
 
--- what is asked for, where the command is built: `check`, `model`, `emulate`, `run`, `predict`, `trace`, `gen` or `trial`; the
--- number of workers changes nothing
+-- what is asked for, where the command is built: `check`, `model`, `emulate`, `run`, `predict`, `trace`, `chain`, `gen` or `trial`;
+-- the number of workers changes nothing
 abbrev pub built : Command → Option Asked
 built command = asked_with command.limit command.waves command.journal command.verb command.names
 

@@ -5,5 +5,6 @@ pub mod Run
 pub mod Journal
 pub mod Predict
 pub mod Trace
+pub mod Chain
 pub mod Gen
 pub mod Trial

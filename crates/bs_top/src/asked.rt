@@ -16,6 +16,7 @@ pub(crate) enum Asked<'a> {
     Run(&'a str, MachineWord<'a>, u64, Option<u64>),
     Predict(&'a str, MachineWord<'a>, Option<u64>, Option<&'a str>),
     Trace(&'a str, MachineWord<'a>),
+    Chain(&'a str, MachineWord<'a>),
     Gen(Generated),
     Trial(Generated),
 }
@@ -84,6 +85,10 @@ fn with_names<'a>(options: Options<'a>, verb: Verb, names: &'a [Argument]) -> Op
         (Verb::Trace, [log, machine]) => {
             let machine = machine_word(machine.text())?;
             Some(Asked::Trace(log.text(), machine))
+        }
+        (Verb::Chain, [log, machine]) => {
+            let machine = machine_word(machine.text())?;
+            Some(Asked::Chain(log.text(), machine))
         }
         (Verb::Gen, [kind, chares, seed]) => {
             let generated = asked_program(kind.text(), chares.text(), seed.text())?;

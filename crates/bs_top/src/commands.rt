@@ -1,4 +1,5 @@
 // The commands, each with its steps up to the reply.
+pub(crate) mod chain;
 pub(crate) mod check;
 pub(crate) mod emulate;
 pub(crate) mod generate;

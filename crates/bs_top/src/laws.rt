@@ -10,10 +10,10 @@ ghost use Rattle.bs_tree.specs.declared.tree.Program.{Program};
 ghost use Rattle.bs_top.specs.Answer.{Answer, IsAnswer, answer_of};
 ghost use Rattle.bs_top.specs.commands.Check.{printed};
 ghost use Rattle.bs_top.specs.commands.Gen.{generated};
-ghost use Rattle.bs_top.specs.Complete.{CanEmulate, CanForetell, CanPredict, CanRun, CanTry, Ends, HasProgram, IsAmple, IsAmpleFor, IsJournaled, IsPredicted, IsReported, IsTraced, IsTried, logged_in};
+ghost use Rattle.bs_top.specs.Complete.{CanEmulate, CanForetell, CanPredict, CanRun, CanTry, Ends, HasProgram, IsAmple, IsAmpleFor, IsChained, IsJournaled, IsPredicted, IsReported, IsTraced, IsTried, logged_in};
 ghost use Rattle.bs_top.specs.Known.{Known, SomeLaws};
 ghost use Rattle.bs_top.specs.Performs.{Answers};
-ghost use Rattle.bs_top.specs.Words.{Asked, IsLimit, asked_by, check, emulate, gen, model, predict, run, trace, trial};
+ghost use Rattle.bs_top.specs.Words.{Asked, IsLimit, asked_by, chain, check, emulate, gen, model, predict, run, trace, trial};
 ghost use Rattle.bs_words.specs.Machine.{MachineWord};
 ghost use Rattle.bs_words.specs.declared.generated.Generated.{Generated};
 ghost use Rattle.bs_top.specs.declared.status.Status.{Status};
@@ -37,6 +37,7 @@ fn known()
     bs_settle::laws::one_settling();
     bs_settle::laws::one_noting();
     bs_serial::laws::verdict_times();
+    bs_path::laws::one_chain();
 }
 
 // And the laws by which there is something.
@@ -52,6 +53,7 @@ fn some_laws()
     bs_settle::laws::some_answer();
     bs_settle::laws::one_noting();
     bs_machine::laws::fitted_machines();
+    bs_path::laws::one_chain();
 }
 
 /// For given contents of the files a command has one answer.
@@ -79,7 +81,8 @@ pub fn some_answer()
 ///
 /// Where the file of a log is there and holds the text of a valid log, and there is a machine that fits
 /// it, the answer to `trace` is the trace of the log at its one consistent table, with the status of the
-/// log's end (`trace`). Where no number of waves is given or one that is enough for the log, the answer to
+/// log's end (`trace`), and the answer to `chain` is the critical chain of the log at that table, with the
+/// same status (`chain`). Where no number of waves is given or one that is enough for the log, the answer to
 /// `predict` is the report of the log's outcome at that table, with the status of its end (`predict`), and
 /// where a journal is asked for, the journal of its waves before that report (`journal`).
 ///
@@ -92,7 +95,8 @@ pub fn some_answer()
 ///
 /// So a call that answers such a command over such files writes these texts whole and ends with that
 /// status, or its status is read fault, write fault or want of memory (`checks`, `models`,
-/// `runs`, `emulates`, `predicts`, `journals`, `traces`, `generates`, `trials`). When the first two come is said by the clause
+/// `runs`, `emulates`, `predicts`, `journals`, `traces`, `chains`, `generates`,
+/// `trials`). When the first two come is said by the clause
 /// `cause` of `perform_alone`.
 pub fn complete()
     ensures check { (files : Files) (name : List ℕ) (p : Program) (a : Answer) → HasProgram files name p → IsAnswer files (Some (check name)) a → a ≡ answer_of (Ok (printed p)) }
@@ -102,6 +106,7 @@ pub fn complete()
     ensures predict { (files : Files) (name : List ℕ) (word : MachineWord) (waves : Option ℕ) (kept : Log) (m : MachineOf) (a : Answer) → CanPredict files name word kept m → IsAmple waves kept → IsAnswer files (Some (predict name word waves None)) a → IsPredicted kept m a }
     ensures journal { (files : Files) (name into : List ℕ) (word : MachineWord) (waves : Option ℕ) (kept : Log) (m : MachineOf) (a : Answer) → CanPredict files name word kept m → IsAmple waves kept → IsAnswer files (Some (predict name word waves (Some into))) a → IsJournaled waves into kept m a }
     ensures trace { (files : Files) (name : List ℕ) (word : MachineWord) (kept : Log) (m : MachineOf) (a : Answer) → CanPredict files name word kept m → IsAnswer files (Some (trace name word)) a → IsTraced kept m a }
+    ensures chain { (files : Files) (name : List ℕ) (word : MachineWord) (kept : Log) (m : MachineOf) (a : Answer) → CanPredict files name word kept m → IsAnswer files (Some (chain name word)) a → IsChained kept m a }
     ensures generate { (files : Files) (program : Generated) (a : Answer) → IsAnswer files (Some (gen program)) a → a ≡ answer_of (Ok (generated program)) }
     ensures trial { (files : Files) (program : Generated) (p : Program) (m : MachineOf) (a : Answer) → CanTry program p m → IsAnswer files (Some (trial program)) a → IsTried program p m a }
     ensures checks { (files : Files) (name : List ℕ) (p : Program) (old new : Outside) (s : Status) → HasProgram files name p → Answers files (Some (check name)) old new s → Ends (λ a. a ≡ answer_of (Ok (printed p))) old new s }
@@ -111,6 +116,7 @@ pub fn complete()
     ensures predicts { (files : Files) (name : List ℕ) (word : MachineWord) (waves : Option ℕ) (kept : Log) (m : MachineOf) (old new : Outside) (s : Status) → CanPredict files name word kept m → IsAmple waves kept → Answers files (Some (predict name word waves None)) old new s → Ends (IsPredicted kept m) old new s }
     ensures journals { (files : Files) (name into : List ℕ) (word : MachineWord) (waves : Option ℕ) (kept : Log) (m : MachineOf) (old new : Outside) (s : Status) → CanPredict files name word kept m → IsAmple waves kept → Answers files (Some (predict name word waves (Some into))) old new s → Ends (IsJournaled waves into kept m) old new s }
     ensures traces { (files : Files) (name : List ℕ) (word : MachineWord) (kept : Log) (m : MachineOf) (old new : Outside) (s : Status) → CanPredict files name word kept m → Answers files (Some (trace name word)) old new s → Ends (IsTraced kept m) old new s }
+    ensures chains { (files : Files) (name : List ℕ) (word : MachineWord) (kept : Log) (m : MachineOf) (old new : Outside) (s : Status) → CanPredict files name word kept m → Answers files (Some (chain name word)) old new s → Ends (IsChained kept m) old new s }
     ensures generates { (files : Files) (program : Generated) (old new : Outside) (s : Status) → Answers files (Some (gen program)) old new s → Ends (λ a. a ≡ answer_of (Ok (generated program))) old new s }
     ensures trials { (files : Files) (program : Generated) (p : Program) (m : MachineOf) (old new : Outside) (s : Status) → CanTry program p m → Answers files (Some (trial program)) old new s → Ends (IsTried program p m) old new s }
 {

@@ -9,6 +9,7 @@ ghost use Rattle.bs_top.specs.Step.{Told};
 ghost use Rattle.bs_top.specs.Words.{asked_by};
 
 use crate::asked::{Asked, built};
+use crate::commands::chain::chain;
 use crate::commands::check::check_text;
 use crate::commands::emulate::emulate;
 use crate::commands::generate::generated_text;
@@ -63,6 +64,7 @@ fn reply<D: Desk>(alloc: Global, words: &[String], desk: &mut D) -> Result<Reply
             predict(alloc, desk, name, word, waves, journal)
         }
         Some(Asked::Trace(name, word)) => trace(alloc, desk, name, word),
+        Some(Asked::Chain(name, word)) => chain(alloc, desk, name, word),
         Some(Asked::Gen(program)) => Ok(generated_text(alloc, program)?),
         Some(Asked::Trial(program)) => trial(alloc, program),
         None => Err(Stopped::Refused(Fault::BadWords)),

@@ -2,9 +2,9 @@ use Rattle.std.proofs.Common.{◌≡◌, None, Ok, Some}
 use Rattle.bs_top.specs.Answer.{answer_of}
 use Rattle.bs_top.specs.commands.Check.{printed}
 use Rattle.bs_top.specs.commands.Gen.{generated}
-use Rattle.bs_top.specs.Complete.{IsJournaled, IsPredicted, IsReported, IsTraced, IsTried, logged_in}
-use Rattle.bs_top.specs.Words.{check, model, emulate, run, predict, trace, gen, trial}
-use Rattle.bs_top.proofs.Completing.{checks, emulates, ends, journals, predicts, reports, reports_run, traces}
+use Rattle.bs_top.specs.Complete.{IsJournaled, IsPredicted, IsChained, IsReported, IsTraced, IsTried, logged_in}
+use Rattle.bs_top.specs.Words.{check, model, emulate, run, predict, trace, chain, gen, trial}
+use Rattle.bs_top.proofs.Completing.{chains, checks, emulates, ends, journals, predicts, reports, reports_run, traces}
 use Rattle.bs_top.proofs.CompletingTrials.{gens, tries}
 use Rattle.bs_top.proofs.laws.complete.Goals as goal
 
@@ -56,6 +56,13 @@ returns-clause-journals c files name into word waves kept m old new s can ample 
 pub returns-clause-traces : goal.returns-clause-traces
 returns-clause-traces c files name word kept m old new s can =
     ends files (Some (trace name word)) (IsTraced kept m) (λ a is. returns-clause-trace c files name word kept m a can is) old new s
+
+pub returns-clause-chain : goal.returns-clause-chain
+returns-clause-chain c files name word kept m a = chains files c.known.ensures name word kept m a
+
+pub returns-clause-chains : goal.returns-clause-chains
+returns-clause-chains c files name word kept m old new s can =
+    ends files (Some (chain name word)) (IsChained kept m) (λ a is. returns-clause-chain c files name word kept m a can is) old new s
 
 pub returns-clause-generate : goal.returns-clause-generate
 returns-clause-generate c files program a = gens files c.known.ensures program a

@@ -19,6 +19,7 @@ returns c = record {
     spent = c.one_settling.ensures.spent;
     either = c.one_settling.ensures.either;
     noting = c.one_noting.ensures.one;
+    chain = c.one_chain.ensures.one;
     outcome = c.one_outcome.ensures;
   };
 }

@@ -8,6 +8,7 @@ returns c = record {
   serial = c.some_serial.ensures.some;
   clean_run = λ p limit m v is h. (c.verdict_times.ensures.unclean p limit m v is).0 h;
   table = c.uniqueness.ensures.some;
+  chain = c.one_chain.ensures.some;
   settling = c.some_answer-3.ensures.settling;
   noting = c.some_answer-3.ensures.noting;
   moving = c.one_noting.ensures.moving;

@@ -70,6 +70,13 @@ returns-in-Some-Trace-clause-told g c =
     subst (λ q. IfSome (g.D.Desk.world c.args.desk.now).files (λ files. Told said_of (reply_to files q) c.trace.result))
     (sym (is ∙ ap (λ a. Some (asked_of a)) c.in-Some-Trace.field-0-is)) c.trace.ensures.told
 
+pub returns-in-Some-Chain-clause-told : goal.returns-in-Some-Chain-clause-told
+returns-in-Some-Chain-clause-told g c =
+    let words = map string_bytes c.args.words.now in
+    let is = asked_is (command_in words) c.in_ok-command.command c.built.result c.in-Some-Chain.field-0 c.in_ok-command.ensures.ok c.built.ensures.value c.in-Some-Chain.is in
+    subst (λ q. IfSome (g.D.Desk.world c.args.desk.now).files (λ files. Told said_of (reply_to files q) c.chain.result))
+    (sym (is ∙ ap (λ a. Some (asked_of a)) c.in-Some-Chain.field-0-is)) c.chain.ensures.told
+
 pub returns-in-Some-Check-clause-cause : goal.returns-in-Some-Check-clause-cause
 returns-in-Some-Check-clause-cause g c =
     let words = map string_bytes c.args.words.now in
@@ -123,6 +130,15 @@ returns-in-Some-Trace-clause-cause g c =
     let new = g.D.Desk.world c.trace.new.desk in
     let kind = subst (λ a. ReadsLogs (asked_of a)) (sym c.in-Some-Trace.field-0-is) (tt {0}) in
     subst (λ q. ReplyCause q old new c.trace.result) (sym is) (log_cause old new (asked_of c.in-Some-Trace.field-0) kind c.trace.result c.trace.ensures.cause)
+
+pub returns-in-Some-Chain-clause-cause : goal.returns-in-Some-Chain-clause-cause
+returns-in-Some-Chain-clause-cause g c =
+    let words = map string_bytes c.args.words.now in
+    let is = asked_is (command_in words) c.in_ok-command.command c.built.result c.in-Some-Chain.field-0 c.in_ok-command.ensures.ok c.built.ensures.value c.in-Some-Chain.is in
+    let old = g.D.Desk.world c.args.desk.now in
+    let new = g.D.Desk.world c.chain.new.desk in
+    let kind = subst (λ a. ReadsLogs (asked_of a)) (sym c.in-Some-Chain.field-0-is) (tt {0}) in
+    subst (λ q. ReplyCause q old new c.chain.result) (sym is) (log_cause old new (asked_of c.in-Some-Chain.field-0) kind c.chain.result c.chain.ensures.cause)
 
 pub returns-in-Some-Gen-clause-told : goal.returns-in-Some-Gen-clause-told
 returns-in-Some-Gen-clause-told g c =
