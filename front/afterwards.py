@@ -126,7 +126,9 @@ def not_written(found, _):
         return reasons[:1]
     if found.command == "emulate":
         return [f"the log couldn't be written whole to {' '.join(found.writes())}"]
-    return ["what was to be printed couldn't be written whole: standard output is closed or full"]
+    return [
+        "what was to be printed couldn't be written whole: standard output is closed or full, or its reader went away"
+    ]
 
 
 def why_unwritable(path):
@@ -156,9 +158,12 @@ def too_big(found, _):
     return []
 
 
-def no_memory(_, __):
+def no_memory(found, _):
     """What to do where memory was wanting."""
-    return ["memory was wanting: close other programs, or raise the limit that 'ulimit -v' shows"]
+    what = "memory was wanting: close other programs, or raise the limit that 'ulimit -v' shows"
+    if found.command == "predict" and found.writes():
+        what += ". A journal is made whole in memory, and --waves N makes a shorter one"
+    return [what]
 
 
 def no_text(_, words):

@@ -2,8 +2,11 @@
 import os
 import pty
 import signal
+import subprocess
+import sys
 import unittest
 
+from front import places
 from front.tests.support import EXAMPLES, ask, folder, played, read, write
 from front.tests import support
 
@@ -14,11 +17,6 @@ class Whole(unittest.TestCase):
     """What was seen to go wrong, by the real program."""
 
     def script(self, *words, **how):
-        import subprocess
-        import sys
-
-        from front import places
-
         given = how.pop("given", b"")
         how = {"stdout": subprocess.PIPE, "stderr": subprocess.PIPE, "input": given, **how}
         script = os.path.join(places.ROOT, "pochvean")
@@ -68,6 +66,41 @@ class Whole(unittest.TestCase):
                 self.assertEqual((got, out), (code, b""), words)
                 self.assertIn(said, err)
 
+    def test_a_closed_stream(self):
+        with folder(**{"l": "bslog 1\nchares 1 entries 0 rows 1\nrow 0 1 1 1\nend\n"}) as room:
+            words = [sys.executable, "-B", os.path.join(places.ROOT, "pochvean"), "predict", "l", "flat:1:1"]
+            for more, closed in (([], "1"), (["--journal", "j"], "1"), (["--waves", "1", "--journal", "j"], "2")):
+                shell = ["sh", "-c", f'"$@" {closed}>&-; echo $? >code', "sh", *words, *more]
+                err = subprocess.run(shell, cwd=room, stderr=subprocess.PIPE, check=True).stderr
+                self.assertEqual(read(room + "/code"), "21\n" if closed == "1" else "0\n", more)
+                self.assertEqual(b"its reader went away" in err, closed == "1", err)
+                if more:
+                    self.assertEqual(read(room + "/j"), "wave 1\nsettled 1\n")
+
+    def test_a_reader_that_goes_away(self):
+        rows = "".join(f"row 0 1 {k} 1\n" + f"after {k - 1}\n" * (k > 1) for k in range(1, 4001))
+        with folder(**{"l": f"bslog 1\nchares 1 entries 0 rows 4000\n{rows}end\n"}) as room:
+            words = [sys.executable, "-B", os.path.join(places.ROOT, "pochvean"), "predict", "l", "flat:1:1"]
+            shell = ["bash", "-c", '"$@" | true; exit ${PIPESTATUS[0]}', "bash", *words]
+            ran = subprocess.run(shell, cwd=room, stderr=subprocess.PIPE)
+            self.assertEqual(ran.returncode, 21)
+            self.assertIn(b"its reader went away", ran.stderr)
+
+    def test_files_that_are_what_they_are_not_for(self):
+        with folder(**{"log": "x", "big": b" " * 1_048_577}) as room:
+            os.mkdir(room + "/in")
+            cases = (
+                (21, ("emulate", PROG, "in"), b"in is a folder, so no file of that name can be written"),
+                (20, ("model", PROG, "in"), b"in is a folder, and a file is wanted"),
+                (18, ("check", "big"), b"big has 1048577 bytes"),
+                (20, ("check", "x" * 300), b"can't be read"),
+                (11, ("check", "/dev/null"), b"bad program: byte 0 unexpected"),
+            )
+            for code, words, said in cases:
+                got, out, err = self.script(*words, cwd=room)
+                self.assertEqual((got, out), (code, b""), words)
+                self.assertIn(said, err)
+
     def test_a_file_that_is_no_log(self):
         with folder(**{"mine.sd": read(PROG), "old.log": "bslog 1\nchares 2"}) as room:
             code, _, err = self.script("emulate", PROG, "mine.sd", cwd=room)
@@ -93,6 +126,15 @@ class Plain(unittest.TestCase):
         with played() as here:
             for code in (0, 3, 4, 16, 17, 30, 99):
                 self.assertEqual(here.call("code", str(code))[0], code)
+
+    def test_memory_that_is_wanting(self):
+        with played() as here:
+            here.play(support.PLAYED_PROGRAM.replace('case "$1" in', '[ "$2" = l ] && exit 30\ncase "$1" in'))
+            code, out, err = here.call("predict", "l", "flat:1:1")
+            self.assertEqual((code, out), (30, ""))
+            self.assertIn("pochvean: memory was wanting", err)
+            self.assertNotIn("journal", err)
+            self.assertIn("--waves N makes a shorter one", here.call("predict", "l", "flat:1:1", "--journal", "j")[2])
 
     def test_input_and_much_output(self):
         with played() as here:
@@ -123,9 +165,6 @@ class Plain(unittest.TestCase):
     def test_closed_streams(self):
         with played() as here:
             here.call("code", "0")
-            import subprocess
-            import sys
-
             words = ["sh", "-c", f"'{sys.executable}' '{here.root}/pochvean' tell line 14 2>&-; echo $?"]
             ran = subprocess.run(words, env=here.environment(), stdout=subprocess.PIPE)
             self.assertEqual(ran.stdout, b"14\n")

@@ -3,3 +3,4 @@ pub mod Parts
 pub mod VersionLemmas
 pub mod MemoryReads
 pub mod MemoryWrites
+pub mod PlanLemmas

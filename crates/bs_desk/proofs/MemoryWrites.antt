@@ -41,6 +41,10 @@ create_sound m fs name i is at sound =
     let vs = seen_of m.files.items in
     record {
       chunk = sound.chunk;
+      opens = sound.opens;
+      reads = sound.reads;
+      creates = sound.creates;
+      writes = sound.writes;
       opened = subst (λ (z : Seen). IfSome m.opened (IsPlace z)) (sym is) (places-append vs _ m.opened sound.opened);
       created = subst (λ (z : Seen). IsNewest z (name_at z i) i) (sym is) (subst (λ k. IsNewest (vs ++ (name, []) ∷ []) (name_at (vs ++ (name, []) ∷ []) k) k) (sym at) (last_is_newest vs name []));
     }
@@ -63,6 +67,10 @@ put_file_sound m fs name bytes to is at sound =
     let moves = moves vs m.created name bytes sound.created in
     record {
       chunk = sound.chunk;
+      opens = sound.opens;
+      reads = sound.reads;
+      creates = sound.creates;
+      writes = sound.writes;
       opened = subst (λ (z : Seen). IfSome m.opened (IsPlace z)) (sym is) (places-append vs _ m.opened sound.opened);
       created = subst (λ (z : Seen). IfSome to (λ i. IsNewest z (name_at z i) i)) (sym is) (subst (λ (o : Option ℕ). IfSome o (λ i. IsNewest (vs ++ (name, bytes) ∷ []) (name_at (vs ++ (name, bytes) ∷ []) i) i)) (sym at) moves.newest);
     }
@@ -175,6 +183,10 @@ wrote_sound m fs w i b made is sound =
     let newest : IsNewest vs (name_at vs i) i = rw made at sound.created in
     record {
       chunk = sound.chunk;
+      opens = sound.opens;
+      reads = sound.reads;
+      creates = sound.creates;
+      writes = sound.writes;
       opened = subst (λ (z : Seen). IfSome m.opened (IsPlace z)) (sym is) (places-lengthened vs i b m.opened sound.opened);
       created = subst (λ (z : Seen). IfSome m.created (λ j. IsNewest z (name_at z j) j)) (sym is)
           (subst (λ (o : Option ℕ). IfSome o (λ j. IsNewest (lengthened vs i b) (name_at (lengthened vs i b) j) j)) (sym made)

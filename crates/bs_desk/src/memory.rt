@@ -1,9 +1,11 @@
 // A desk in memory, which tells its files.
 ghost use Rattle.std.specs.Prelude.{◌≡◌, ◌≢◌, ◌≤◌, [], Err, IfOk, IsTrue, OnErr, OnOk, length, min, option_map, unwrap_or};
 ghost use Rattle.bs_desk.specs.Outside.{MayWrite, Opens, Reads, Creates, Writes, bytes_written, contents_of, with_contents};
-ghost use Rattle.bs_desk.specs.InMemory.{empty_desk};
+ghost use Rattle.bs_desk.specs.InMemory.{empty_desk, to_fail};
+ghost use Rattle.bs_desk.specs.Planned.{FailsWhere, counted, is_due};
 
 use crate::desk::{Desk, DeskFault, Port};
+use crate::plans::{Op, Plan};
 use crate::versions::{Version, append, bytes_of, newest, place_after_push, push};
 use std::alloc::{AllocError, Global};
 use std::marker::Model;
@@ -18,9 +20,10 @@ struct Opened {
 
 /// A desk whose files and streams are kept in memory.
 ///
-/// It tells its files, and it can't fail. Each call of `read` and `write` passes as many bytes as it
-/// can, but at most `chunk`. What is left of an opened file stays as it was when the file was opened,
-/// whatever is written or created after that.
+/// It tells its files. A call answers `Failed` exactly where `fail` names it, and the desk can fail
+/// exactly where a call is named. Each call of `read` and `write` passes as many bytes as it can, but
+/// at most `chunk`. What is left of an opened file stays as it was when the file was opened, whatever
+/// is written or created after that.
 #[derive(Drop)]
 pub struct MemoryDesk {
     alloc: Global,
@@ -33,8 +36,13 @@ pub struct MemoryDesk {
     file: Vec<u8>,
     found: bool,
     taken: u64,
+    can_fail: bool,
     read_faults: u64,
     write_faults: u64,
+    opens: Plan,
+    reads: Plan,
+    creates: Plan,
+    writes: Plan,
 }
 
 impl Model for MemoryDesk {
@@ -68,8 +76,13 @@ impl MemoryDesk {
             file: Vec::new(alloc),
             found: true,
             taken: 0,
+            can_fail: false,
             read_faults: 0,
             write_faults: 0,
+            opens: Plan::new(alloc),
+            reads: Plan::new(alloc),
+            creates: Plan::new(alloc),
+            writes: Plan::new(alloc),
         }
     }
 
@@ -83,6 +96,24 @@ impl MemoryDesk {
         let created = place_after_push(&self.files, self.created, name);
         push(self.alloc, &mut self.files, name, bytes)?;
         self.created = created;
+        Ok(())
+    }
+
+    /// Lets the `nth` call of that kind answer `Failed`, and do nothing but raise its count of faults.
+    /// Calls of a kind are counted from 1, from the first that is made of the desk, whatever they
+    /// answer, and the count stands still at 2^64 - 1. So 0, and a call that was made before, name
+    /// none. From then on the desk can fail.
+    pub fn fail(&mut self, op: Op, nth: u64) -> Result<(), AllocError>
+        ensures ok { OnOk result (self.new ≡ to_fail op nth self.old) }
+        ensures err { OnErr result (self.new ≡ self.old) }
+    {
+        match op {
+            Op::Open => self.opens.add(nth)?,
+            Op::Read => self.reads.add(nth)?,
+            Op::Create => self.creates.add(nth)?,
+            Op::Write => self.writes.add(nth)?,
+        }
+        self.can_fail = true;
         Ok(())
     }
 
@@ -120,9 +151,14 @@ impl Desk for MemoryDesk {
     /// It takes no memory.
     fn open(&mut self, name: &str) -> Result<bool, DeskFault>
         ensures opens { Opens name.now self.old.outside self.new.outside result }
-        ensures chunk { self.new.chunk ≡ self.old.chunk }
+        ensures fails { FailsWhere (is_due self.old.opens) result }
+        ensures calls { self.new ≡ record self.old { outside = self.new.outside; opens = counted self.old.opens } }
         ensures no_memory { result ≢ Err DeskFault.Memory }
     {
+        if self.opens.fails_next() {
+            self.read_faults = self.read_faults.saturating_add(1);
+            return Err(DeskFault::Failed);
+        }
         self.taken = 0;
         match newest(&self.files, name.as_bytes()) {
             Some(place) => {
@@ -146,10 +182,15 @@ impl Desk for MemoryDesk {
     fn read(&mut self, room: &mut [u8]) -> Result<usize, DeskFault>
         requires { IsTrue self.old.outside.is_open }
         ensures reads { Reads self.old.outside self.new.outside room.new result }
-        ensures chunk { self.new.chunk ≡ self.old.chunk }
+        ensures fails { FailsWhere (is_due self.old.reads) result }
+        ensures calls { self.new ≡ record self.old { outside = self.new.outside; reads = counted self.old.reads } }
         ensures count { IfOk result (λ n. n ≡ min (length room.new) (min self.old.chunk (length (unwrap_or self.old.outside.rest [])))) }
         ensures no_memory { result ≢ Err DeskFault.Memory }
     {
+        if self.reads.fails_next() {
+            self.read_faults = self.read_faults.saturating_add(1);
+            return Err(DeskFault::Failed);
+        }
         let Some(opened) = self.opened else {
             unreachable!()
         };
@@ -167,8 +208,13 @@ impl Desk for MemoryDesk {
 
     fn create(&mut self, name: &str) -> Result<(), DeskFault>
         ensures creates { Creates name.now self.old.outside self.new.outside result }
-        ensures chunk { self.new.chunk ≡ self.old.chunk }
+        ensures fails { FailsWhere (is_due self.old.creates) result }
+        ensures calls { self.new ≡ record self.old { outside = self.new.outside; creates = counted self.old.creates } }
     {
+        if self.creates.fails_next() {
+            self.write_faults = self.write_faults.saturating_add(1);
+            return Err(DeskFault::Failed);
+        }
         let place = self.files.len();
         push(self.alloc, &mut self.files, name.as_bytes(), b"")?;
         self.created = Some(place);
@@ -178,9 +224,14 @@ impl Desk for MemoryDesk {
     fn write(&mut self, port: Port, bytes: &[u8]) -> Result<usize, DeskFault>
         requires { MayWrite port self.old.outside }
         ensures writes { Writes port bytes.now self.old.outside self.new.outside result }
-        ensures chunk { self.new.chunk ≡ self.old.chunk }
+        ensures fails { FailsWhere (is_due self.old.writes) result }
+        ensures calls { self.new ≡ record self.old { outside = self.new.outside; writes = counted self.old.writes } }
         ensures count { IfOk result (λ n. n ≡ min (length bytes.now) self.old.chunk) }
     {
+        if self.writes.fails_next() {
+            self.write_faults = self.write_faults.saturating_add(1);
+            return Err(DeskFault::Failed);
+        }
         let count = bytes.len().min(self.chunk);
         let front = &bytes[..count];
         match port {

@@ -1,4 +1,4 @@
-use crate::{Desk, DeskFault, HostDesk, MemoryDesk, Port, ReadAllFault, read_all, write_all};
+use crate::{Desk, DeskFault, HostDesk, MemoryDesk, Op, Port, ReadAllFault, read_all, write_all};
 use std::fs;
 use std::test::Fail;
 
@@ -37,6 +37,28 @@ fn the_created_file_grows_at_its_end(rt: HostRuntime) -> Result<(), Fail> {
         b"xstatus settled\nb".as_slice()
     );
     assert_eq!(rt; desk.written(Port::File), b"status settled\nb".as_slice());
+    Ok(())
+}
+
+#[test]
+fn named_calls_fail(rt: HostRuntime) -> Result<(), Fail> {
+    let mut desk = MemoryDesk::new(rt.alloc(), 16);
+    desk.put_file("report", TEXT)?;
+    desk.fail(Op::Open, 2)?;
+    desk.fail(Op::Read, 1)?;
+    desk.fail(Op::Create, 1)?;
+    desk.fail(Op::Write, 2)?;
+    assert_eq!(rt; desk.open("report"), Ok(true));
+    assert_eq!(rt; desk.open("report"), Err(DeskFault::Failed));
+    let mut room = [0; 64];
+    assert_eq!(rt; desk.read(&mut room), Err(DeskFault::Failed));
+    assert_eq!(rt; desk.read(&mut room), Ok(16));
+    assert_eq!(rt; desk.create("log"), Err(DeskFault::Failed));
+    assert_eq!(rt; desk.file("log"), None);
+    let cut = write_all(&mut desk, Port::Out, TEXT);
+    assert_eq!(rt; cut, Err(DeskFault::Failed));
+    assert_eq!(rt; desk.written(Port::Out), &TEXT[..16]);
+    assert_eq!(rt; desk.faults(), (2, 2));
     Ok(())
 }
 

@@ -4,6 +4,7 @@ use Rattle.bs_desk.specs.declared.versions.Version.{Version}
 use Rattle.bs_desk.specs.InMemory.{InMemory}
 use Rattle.bs_desk.specs.Outside.{Outside}
 use Rattle.bs_desk.specs.Versions.{seen_of, moved}
+use Rattle.bs_desk.specs.Memory.{seen_as}
 use Rattle.bs_desk.proofs.VersionLemmas.{created_within, length-seen_of}
 use Rattle.bs_desk.proofs.MemoryWrites.{puts_file, put_file_sound}
 use Rattle.bs_desk.proofs.memory.MemoryDesk.put_file.Goals as goal
@@ -22,4 +23,4 @@ pub returns-clause-ok : goal.returns-clause-ok
 returns-clause-ok c =
     let moved = c.place_after_push-created.ensures ∙ ap (λ (vs : List Version). moved (seen_of vs) c.self.inside.created c.as_bytes-name.result.now) c.deref.ensures.value in
     let same = puts_file c.self.inside c.push.new.files c.as_bytes-name.result.now c.args.bytes.now c.place_after_push-created.result c.in_ok-push.ensures.ok moved c.self.invariant in
-    rw (← c.self.view_is, ← c.as_bytes-name.ensures.value) (ap {A = Outside} {B = InMemory} (λ o. record { outside = o; chunk = c.self.inside.chunk }) same)
+    rw (← c.self.view_is, ← c.as_bytes-name.ensures.value) (ap {A = Outside} {B = InMemory} (λ o. record (seen_as c.self.inside) { outside = o }) same)

@@ -3,6 +3,7 @@ use Rattle.bs_desk.specs.declared.versions.Version.{Version}
 use Rattle.bs_desk.specs.Versions.{seen_of, IsNewest, bytes_at, found}
 use Rattle.bs_desk.proofs.VersionLemmas.{length-seen_of, newest_within}
 use Rattle.bs_desk.proofs.MemoryReads.{begins, misses}
+use Rattle.bs_desk.proofs.PlanLemmas.{open_counted}
 use Rattle.bs_desk.proofs.memory.MemoryDeskDesk.open.Goals as goal
 
 pub bytes_of-end-requires : goal.bytes_of-end-requires
@@ -10,14 +11,19 @@ bytes_of-end-requires c =
     let newest : IsNewest (seen_of c.self.inside.files.items) c.args.name.now c.in-Some.place = rw (← c.deref.ensures.value, ← c.as_bytes.ensures.value) c.in-Some.ensures in
     omega (arith, newest_within (seen_of c.self.inside.files.items) c.args.name.now c.in-Some.place newest, length-seen_of c.self.inside.files.items, ap length c.deref-in-Some.ensures.value)
 
-pub invariant_of-self : goal.invariant_of-self
-invariant_of-self c =
+pub invariant_of-self-in-Some : goal.invariant_of-self-in-Some
+invariant_of-self-in-Some c =
     let newest : IsNewest (seen_of c.self.inside.files.items) c.args.name.now c.in-Some.place = rw (← c.deref.ensures.value, ← c.as_bytes.ensures.value) c.in-Some.ensures in
     let bytes = c.bytes_of-end.ensures ∙ ap (λ (vs : List Version). bytes_at (seen_of vs) c.in-Some.place) c.deref-in-Some.ensures.value in
+    let sound = open_counted c.self.inside c.fails_next.new.self c.fails_next.ensures.counted c.self.invariant in
     record {
-      chunk = c.self.invariant.chunk;
+      chunk = sound.chunk;
       opened = record { place = newest_within (seen_of c.self.inside.files.items) c.args.name.now c.in-Some.place newest; order = omega arith; end = omega (arith, ap length bytes) };
-      created = c.self.invariant.created;
+      created = sound.created;
+      opens = sound.opens;
+      reads = sound.reads;
+      creates = sound.creates;
+      writes = sound.writes;
     }
 
 pub returns-in-Some-clause-opens : goal.returns-in-Some-clause-opens

@@ -19,4 +19,4 @@ returns-clause-reads c =
     let place : IsPlace (seen_of c.self.inside.files.items) p = rw c.in-Some.is at c.self.invariant.opened in
     let count : p.from + c.min-count.result - p.from ≡ c.min-count.result = omega arith in
     let after = copy.after ∙ ap (λ n. take n (drop p.from c.bytes_of-bytes.result.now)) count ∙ ap (λ (xs : List ℕ). take c.min-count.result (drop p.from xs)) bytes in
-    rw (← c.self.view_is) (takes c.self.inside p c.min-count.result c.saturating_add-self-inside.result c.args.room.now c.copy_from_slice.new.self c.in-Some.is place (c.min-count.ensures ∙ ap (λ k. min k (p.end - p.from)) c.min.ensures) c.self.invariant.chunk c.saturating_add-self-inside.ensures (omega (arith, copy.len, length-take c.min-count.result c.args.room.now, c.min-count.ensures, c.min.ensures)) after)
+    rw (← c.self.view_is) (takes c.self.inside p c.min-count.result c.saturating_add-self-inside-2.result c.args.room.now c.copy_from_slice.new.self c.in-Some.is place (c.min-count.ensures ∙ ap (λ k. min k (p.end - p.from)) c.min.ensures) c.self.invariant.chunk c.saturating_add-self-inside-2.ensures (omega (arith, copy.len, length-take c.min-count.result c.args.room.now, c.min-count.ensures, c.min.ensures)) after)

@@ -5,6 +5,7 @@ use Rattle.bs_desk.specs.declared.versions.Version.{Version}
 use Rattle.bs_desk.specs.Versions.{seen_of, lengthened, name_at, IsNewest}
 use Rattle.bs_desk.proofs.VersionLemmas.{length-seen_of, newest_within}
 use Rattle.bs_desk.proofs.MemoryWrites.{wrote_file, wrote_sound}
+use Rattle.bs_desk.proofs.PlanLemmas.{write_counted}
 use Rattle.bs_desk.proofs.memory.MemoryDeskDesk.write.Goals as goal
 
 pub append-requires : goal.append-requires
@@ -19,7 +20,8 @@ invariant_of-self-in-Continue-branch-3 c =
     let done = c.in_ok-append-in-File.ensures in
     let len : length c.append.new.files ≡ c.self.inside.files.len = omega (arith, c.append.auto.files, c.deref_mut.ensures.len) in
     let files = ap seen_of (with_items_is c.self.inside.files c.append.new.files len) ∙ done.files ∙ ap (λ (vs : List Version). lengthened (seen_of vs) c.in-Some.place b) c.deref_mut.ensures.value in
-    wrote_sound c.self.inside (with_items c.self.inside.files c.append.new.files) c.append.new.written c.in-Some.place b c.in-Some.is files c.self.invariant
+    let sound = write_counted c.self.inside c.fails_next.new.self c.fails_next.ensures.counted c.self.invariant in
+    wrote_sound (record c.self.inside { writes = c.fails_next.new.self }) (with_items c.self.inside.files c.append.new.files) c.append.new.written c.in-Some.place b c.in-Some.is files sound
 
 pub returns-in_ok-append-in-File-clause-writes : goal.returns-in_ok-append-in-File-clause-writes
 returns-in_ok-append-in-File-clause-writes c =
