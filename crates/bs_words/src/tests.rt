@@ -43,6 +43,7 @@ fn each_command_has_its_names_and_options(rt: HostRuntime) -> Result<(), Fail> {
         "predict a b --journal j --workers 1 --waves 1099511627776",
         "run a b --waves 1 --workers 2 --limit 2",
         "trace a b",
+        "chain a b --workers 64",
         "gen stencil 512 999999",
         "trial tree 1 0 --workers 8",
     ] {

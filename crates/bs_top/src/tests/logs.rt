@@ -138,6 +138,9 @@ wait chare 0 stmt 1 entry 0 ref 0
 wait chare 1 stmt 1 entry 0 ref 0
 span 0
 $ trace l flat:2:5 = 3
+$ chain l flat:2:5 = 3
+chain rows 0 span 0
+last 0
 $ predict l flat:2:5 --waves 1 = 3
 status deadlock
 wait chare 0 stmt 1 entry 0 ref 0
@@ -266,6 +269,12 @@ block 4 chare 2 stmt 6 proc 0 start 8 end 18
 span 28
 proc 0 blocks 2 busy 20 use 7142
 proc 1 blocks 2 busy 3 use 1071
+$ chain l m --workers 1 = 0
+chain rows 3 span 28
+row 2 chare 1 stmt 2 start 0 step 0 first
+row 4 chare 2 stmt 6 start 8 step 8 mail 2 2
+row 1 chare 0 stmt 6 start 18 step 10 proc 4
+last 10
 $ trace l m = 0
 proc 0
 run 4 ready 8 start 8 end 18
@@ -295,7 +304,7 @@ after 3
 mail 1 1
 emit 0
 end
-$ predict|trace l flat:2:5 = 14
+$ predict|trace|chain l flat:2:5 = 14
 bad log: line 15 bad line
 $ put l
 bslog 1
