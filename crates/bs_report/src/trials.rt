@@ -29,12 +29,7 @@ pub fn trial_line(
     Ok(text.into_bytes())
 }
 
-fn write_program(
-    text: &mut String,
-    kind: &str,
-    chares: u32,
-    seed: u32,
-) -> Result<(), AllocError>
+fn write_program(text: &mut String, kind: &str, chares: u32, seed: u32) -> Result<(), AllocError>
     ensures { OnOk result (string_bytes text.new ≡ string_bytes text.old ++ program_words kind.now chares seed) }
 {
     write!(text, "trial {kind} {chares} {seed}")

@@ -52,15 +52,26 @@ module _ (waves : Option ℕ) (p : Program) (m : MachineOf) (limit : ℕ) where
   pub reports : (outcome : Outcome) → by_log waves p m limit (outcome_on p m limit) (Ok outcome) → (said : Said) → said ≡ reported outcome → ran waves p m limit (Ok said)
   unfolding ran by_log
   reports outcome h said same =
-      let is : IsOutcomeOn p m limit outcome = h.2.2.2 in
-      (tt, h.1, (h.2.0, h.2.1, (tt, h.2.2.1, record {
-        fitted = is.fitted;
-        outcome = outcome;
-        is_machine = is.is_machine;
-        is_fitted = is.is_fitted;
-        is_outcome = is.is_outcome;
-        is_said = same;
-      })))
+      let is : IsOutcomeOn p m limit outcome = h.2.2.2 in (
+        tt,
+        h.1,
+        (
+          h.2.0,
+          h.2.1,
+          (
+            tt,
+            h.2.2.1,
+            record {
+              fitted = is.fitted;
+              outcome = outcome;
+              is_machine = is.is_machine;
+              is_fitted = is.is_fitted;
+              is_outcome = is.is_outcome;
+              is_said = same;
+            },
+          ),
+        ),
+      )
 
   stopped_run : (stop : Stopped) → by_log waves p m limit (outcome_on p m limit) (Err stop) → ran waves p m limit (Err stop)
   unfolding ran by_log

@@ -34,14 +34,16 @@ pub(crate) fn trial(alloc: Global, generated: Generated) -> Result<Reply, Stoppe
 }
 
 // The line of a trial.
-fn trial_of(
-    alloc: Global,
-    generated: Generated,
-    outcome: &Outcome,
-) -> Result<Reply, AllocError>
+fn trial_of(alloc: Global, generated: Generated, outcome: &Outcome) -> Result<Reply, AllocError>
     ensures { IfOk result (λ reply. said_of reply ≡ tried_as generated outcome.now) }
 {
-    let text = trial_line(alloc, generated.kind, generated.chares, generated.seed, outcome)?;
+    let text = trial_line(
+        alloc,
+        generated.kind,
+        generated.chares,
+        generated.seed,
+        outcome,
+    )?;
     Ok(Reply {
         ending: Ending::Run(end(outcome)),
         note: None,
