@@ -28,6 +28,9 @@ COMMANDS: Dict[str, Command] = {
         (LOG, MACHINE), ("--waves", "--journal", "--workers"), "prints when each block of a log runs on a machine"
     ),
     "trace": Command((LOG, MACHINE), (), "prints what each processor ran, and when each message left and came"),
+    "chain": Command(
+        (LOG, MACHINE), ("--workers",), "prints the blocks that the span waits for, each with what it waited for"
+    ),
     "gen": Command((KIND, CHARES, SEED), (), "prints a program that is made from a kind, a number of chares and a seed"),
     "trial": Command((KIND, CHARES, SEED), ("--workers",), "runs such a program on flat:64:10, and prints one line"),
 }
