@@ -8,6 +8,24 @@ body {
 }
 ";
 
+// A log of three chares: chare 1 sends a long message to chare 0 and a short one to chare 2, which then
+// sends word to chare 1.
+pub(super) const CORRECTED: &str = "bslog 1
+chares 3 entries 2 rows 4
+row 0 6 2 10
+mail 2 1
+row 1 2 1 2
+send 0 0 0 640 1
+send 2 0 0 8 2
+row 1 4 3 1
+after 2
+mail 4 1
+row 2 6 2 10
+mail 2 2
+send 1 1 0 0 10
+end
+";
+
 // Two nodes, on which bytes cost.
 pub(super) const BY_BYTES: &str = "[torus]
 sizes = [2]
