@@ -139,8 +139,6 @@ $ check p --limit 3 = 10
 bad words
 $ model p flat:2:5 --waves 3 = 10
 bad words
-$ gen ring 1 0 = 10
-bad words
 $ model --limit 262144 p flat:2:5 = 0
 status settled
 block 1 chare 0 stmt 1 proc 0 start 0 end 4
