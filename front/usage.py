@@ -23,6 +23,9 @@ MORE = {
         "MACHINE is the file of a machine (docs/machine-file.md), or flat:P:L: P processors (1 to 65536), where each\n"
         "message takes L ticks (1 to 274877906944)."
     ),
+    "KIND": "KIND is ring, stencil or tree (docs/workloads.md).",
+    "N": "N is the number of chares, from 1 to 512.",
+    "SEED": "SEED is a number from 0 to 999999, which sets how much the chares work.",
     "--limit": "--limit N bounds the size of the run, from 1 to 262144, which it is without the option.",
     "--waves": (
         "--waves V bounds the waves of corrections, from 1 to 1099511627776. Without it there are as many as it takes."
