@@ -71,7 +71,8 @@ class Whole(unittest.TestCase):
             words = [sys.executable, "-B", os.path.join(places.ROOT, "pochvean"), "predict", "l", "flat:1:1"]
             for more, closed in (([], "1"), (["--journal", "j"], "1"), (["--waves", "1", "--journal", "j"], "2")):
                 shell = ["sh", "-c", f'"$@" {closed}>&-; echo $? >code', "sh", *words, *more]
-                err = subprocess.run(shell, cwd=room, check=True, stdout=subprocess.DEVNULL, stderr=subprocess.PIPE).stderr
+                how = {"stdout": subprocess.DEVNULL, "stderr": subprocess.PIPE}
+                err = subprocess.run(shell, cwd=room, check=True, **how).stderr
                 self.assertEqual(read(room + "/code"), "21\n" if closed == "1" else "0\n", more)
                 self.assertEqual(b"its reader went away" in err, closed == "1", err)
                 if more:
