@@ -145,7 +145,7 @@ class Plain(unittest.TestCase):
             cut = '[ "$1" = predict ] && echo "$2 1" >"$5" && exit 21\ncase "$1" in'
             here.play(support.PLAYED_PROGRAM.replace('case "$1" in', cut))
             at = os.path.join(here.root, "j")
-            for log, said in (("wave", "the journal couldn't be written whole to"), ("settled", "its reader went away")):
+            for log, said in (("wave", "the journal couldn't be written"), ("settled", "its reader went away")):
                 self.assertIn(said, here.call("predict", log, "flat:1:1", "--journal", at)[2])
 
     def test_input_and_much_output(self):
