@@ -126,9 +126,25 @@ def not_written(found, _):
         return reasons[:1]
     if found.command == "emulate":
         return [f"the log couldn't be written whole to {' '.join(found.writes())}"]
+    for path in found.writes():
+        if not os.path.isfile(path):
+            return [f"the journal couldn't be written whole to {path}, or standard output is closed or full"]
+        if not is_whole_journal(path):
+            return [f"the journal couldn't be written whole to {path}"]
     return [
         "what was to be printed couldn't be written whole: standard output is closed or full, or its reader went away"
     ]
+
+
+def is_whole_journal(path):
+    """Whether a plain file ends like a journal."""
+    try:
+        with open(path, "rb") as file:
+            file.seek(max(0, os.path.getsize(path) - 64))
+            lines = file.read().split(b"\n")
+    except OSError:
+        return False
+    return len(lines) > 1 and lines[-1] == b"" and lines[-2].startswith((b"settled ", b"spent "))
 
 
 def why_unwritable(path):
@@ -136,6 +152,8 @@ def why_unwritable(path):
     folder = os.path.dirname(os.path.abspath(path))
     if os.path.isdir(path):
         return f"{path} is a folder, so no file of that name can be written"
+    if os.path.exists(folder) and not os.path.isdir(folder):
+        return f"{path} lies below a file that is no folder"
     if not os.path.isdir(folder):
         return f"{path} can't be written: there is no folder {folder}"
     is_there = os.path.exists(path)

@@ -1,9 +1,10 @@
 """Making a checked build: the sources built without their proofs, once, and kept.
 
 `rt try` builds such an executable and runs it, and keeps nothing. What is relied on here: while it runs, the
-executable lies as a file named `program` somewhere below the folder that `TMPDIR` names. It is held open as soon
-as it is seen, and copied when `rt try` has ended well. A copy is kept only where it then answers as the crate's own
-files say that it must. Where any of this isn't so, the words are run by `rt try` itself (`tried.py`).
+executable lies as a file whose name begins with `program` somewhere below the folder that `TMPDIR` names, also while
+it is linked. It is held open as soon as it is seen, and copied when `rt try` has ended well. A copy is kept only where
+it then answers as the crate's own files say that it must. Where any of this isn't so, the words are run by `rt try`
+itself (`tried.py`).
 """
 import contextlib
 import fcntl
@@ -19,8 +20,8 @@ from front.build import Build, NoBuild
 from front.telling import Progress, tell
 
 PROGRAM = "program"
-# How often the folder is looked at, in seconds. The executable lies there for a second at least.
-LOOK = 0.05
+# How often the folder is looked at, in seconds. The executable may lie there for a twentieth of a second.
+LOOK = 0.01
 # How many checked builds of other sources stay.
 MOST_KEPT = 4
 NO_RT = (
@@ -148,16 +149,15 @@ def caught(room):
 def hold(room, seen):
     """Opens each executable that lies below the folder and isn't held yet."""
     for at, _, names in os.walk(room):
-        if PROGRAM not in names:
-            continue
-        try:
-            found = os.stat(os.path.join(at, PROGRAM))
-            mark = (found.st_dev, found.st_ino)
-            if found.st_mode & 0o100 and mark not in seen:
-                seen[mark] = open(os.path.join(at, PROGRAM), "rb")
-        except OSError:
-            # (removed meanwhile)
-            continue
+        for path in (os.path.join(at, name) for name in names if name.startswith(PROGRAM)):
+            try:
+                found = os.stat(path)
+                mark = (found.st_dev, found.st_ino)
+                if found.st_mode & 0o100 and mark not in seen:
+                    seen[mark] = open(path, "rb")
+            except OSError:
+                # (removed meanwhile)
+                continue
 
 
 def end(process):

@@ -71,7 +71,8 @@ class Whole(unittest.TestCase):
             words = [sys.executable, "-B", os.path.join(places.ROOT, "pochvean"), "predict", "l", "flat:1:1"]
             for more, closed in (([], "1"), (["--journal", "j"], "1"), (["--waves", "1", "--journal", "j"], "2")):
                 shell = ["sh", "-c", f'"$@" {closed}>&-; echo $? >code', "sh", *words, *more]
-                err = subprocess.run(shell, cwd=room, stderr=subprocess.PIPE, check=True).stderr
+                how = {"stdout": subprocess.DEVNULL, "stderr": subprocess.PIPE}
+                err = subprocess.run(shell, cwd=room, check=True, **how).stderr
                 self.assertEqual(read(room + "/code"), "21\n" if closed == "1" else "0\n", more)
                 self.assertEqual(b"its reader went away" in err, closed == "1", err)
                 if more:
@@ -87,10 +88,13 @@ class Whole(unittest.TestCase):
             self.assertIn(b"its reader went away", ran.stderr)
 
     def test_files_that_are_what_they_are_not_for(self):
-        with folder(**{"log": "x", "big": b" " * 1_048_577}) as room:
+        short = "bslog 1\nchares 1 entries 0 rows 0\nend\n"
+        with folder(**{"log": "x", "big": b" " * 1_048_577, "l": short}) as room:
             os.mkdir(room + "/in")
             cases = (
                 (21, ("emulate", PROG, "in"), b"in is a folder, so no file of that name can be written"),
+                (21, ("emulate", PROG, "log/below"), b"log/below lies below a file"),
+                (21, ("predict", "l", "flat:1:1", "--journal", "/dev/full"), b"couldn't be written whole to /dev/full"),
                 (20, ("model", PROG, "in"), b"in is a folder, and a file is wanted"),
                 (18, ("check", "big"), b"big has 1048577 bytes"),
                 (20, ("check", "x" * 300), b"can't be read"),
@@ -135,6 +139,14 @@ class Plain(unittest.TestCase):
             self.assertIn("pochvean: memory was wanting", err)
             self.assertNotIn("journal", err)
             self.assertIn("--waves N makes a shorter one", here.call("predict", "l", "flat:1:1", "--journal", "j")[2])
+
+    def test_a_journal_that_is_cut(self):
+        with played() as here:
+            cut = '[ "$1" = predict ] && echo "$2 1" >"$5" && exit 21\ncase "$1" in'
+            here.play(support.PLAYED_PROGRAM.replace('case "$1" in', cut))
+            at = os.path.join(here.root, "j")
+            for log, said in (("wave", "the journal couldn't be written"), ("settled", "its reader went away")):
+                self.assertIn(said, here.call("predict", log, "flat:1:1", "--journal", at)[2])
 
     def test_input_and_much_output(self):
         with played() as here:
