@@ -1,12 +1,12 @@
 mod Listed
 mod Whole
-mod Passed
+pub mod Passed
 mod Budget
 mod Joined
 mod Columns
 mod Lines
 mod Held
-mod Premises
+pub mod Premises
 mod Sorted
 mod Holds
 mod Refreshed
@@ -21,3 +21,4 @@ mod Early
 mod WaveLists
 mod OneNoting
 mod SomeNoting
+pub mod FirstStill

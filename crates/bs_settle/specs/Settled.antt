@@ -3,7 +3,7 @@ use Rattle.std.specs.Prelude.{◌≡◌, ◌≢◌, ◌≤◌, ◌<◌, ◌⊎�
 use Rattle.bs_log.specs.declared.log.MailRef.{MailRef}
 use Rattle.bs_log.specs.Rising.{IsLower}
 use Rattle.bs_times.specs.Net.{Net, Ticks}
-use Rattle.bs_times.specs.Times.{AreWaves, IsListed, IsStill, SameTicks, budget}
+use Rattle.bs_times.specs.Times.{AreWaves, IsListed, IsStill, SameTicks, Settles, budget}
 use Rattle.bs_times.specs.Racing.{IsDirty}
 use Rattle.bs_line.specs.declared.corrections.Correction.{Correction}
 use Rattle.bs_settle.specs.declared.field.Field.{Field}
@@ -31,6 +31,11 @@ OfWaves net estimates P = (ticks : ℕ → Ticks) → AreWaves net ticks → Sam
 -- wave n, counted from 1, changes no tick
 abbrev pub StillAt : Net → Ticks → ℕ → Type 0
 StillAt net estimates n = OfWaves net estimates (λ ticks. (k : ℕ) → suc k ≡ n → IsStill net ticks k)
+
+-- wave n, counted from 1, is the first that changes no tick
+pub record SettlesAt (net : Net) (estimates : Ticks) (n : ℕ) : Type 0 where
+  pub some : 1 ≤ n
+  pub settles : OfWaves net estimates (λ ticks. (k : ℕ) → suc k ≡ n → Settles net ticks k)
 
 -- wave n changes this message before all others
 abbrev pub ChangesAt : Net → Ticks → ℕ → MailRef → ℕ → ℕ → Type 0

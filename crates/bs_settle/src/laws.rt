@@ -8,7 +8,7 @@ ghost use Rattle.bs_times.specs.Budget.{budget_of};
 ghost use Rattle.bs_times.specs.Net.{Causal, Net, Starts, Ticks, net_of};
 ghost use Rattle.bs_times.specs.Times.{IsConsistent, SameTicks, arrival, budget};
 ghost use Rattle.bs_settle.specs.declared.settling.BudgetSpent.{BudgetSpent};
-ghost use Rattle.bs_settle.specs.Settled.{IsSpent, StillAt};
+ghost use Rattle.bs_settle.specs.Settled.{IsSpent, SettlesAt, StillAt};
 
 /// **Few waves.** So many waves as are always enough are the same on every machine (`one`), and at most 2^40
 /// (`few`).
@@ -52,4 +52,12 @@ pub fn one_noting()
 pub fn some_answer()
     ensures settling { (net : Net) → Causal net → (estimates : Ticks) (most : ℕ) → 1 ≤ most → StillAt net estimates most ⊎ ((s : BudgetSpent) × IsSpent net estimates most s) }
     ensures noting { (net : Net) → Causal net → (estimates : Ticks) (most : ℕ) → 1 ≤ most → (lists : List (List Correction)) × (settled : Bool) × AreNoted net estimates most lists settled }
+{}
+
+/// **One number of waves.** From any estimates there is a first wave that changes no tick, at most the one
+/// of a budget that is enough (`some`), and from the same ticks of all listed messages it has one number
+/// (`one`).
+pub fn one_counting()
+    ensures some { (net : Net) → Causal net → (estimates : Ticks) → (n : ℕ) × (n ≤ budget net) × SettlesAt net estimates n }
+    ensures one { (net : Net) → Causal net → (a b : Ticks) (m n : ℕ) → SameTicks net a b → SettlesAt net a m → SettlesAt net b n → m ≡ n }
 {}

@@ -8,6 +8,7 @@
 #![tactic(auto)]
 
 mod causes;
+mod counting;
 mod field;
 mod gathering;
 mod holding;
@@ -22,6 +23,7 @@ mod times;
 mod waves;
 
 pub use bs_line::Correction;
+pub use counting::Counted;
 pub use field::{Estimates, Field};
 pub use noting::Noted;
 pub use passing::settled_times;

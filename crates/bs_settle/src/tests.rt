@@ -289,6 +289,19 @@ fn each_wave_is_noted(rt: HostRuntime) -> Result<(), Fail> {
 }
 
 #[test]
+fn waves_are_counted(rt: HostRuntime) -> Result<(), Fail> {
+    let alloc = rt.alloc();
+    let log = worked_log(alloc)?;
+    let machine = worked_machine(alloc)?;
+    let mut field = field(alloc, &log, &machine, &[])?;
+    let counted = field.settle_counting(alloc)?;
+    assert_eq!(rt; counted.waves, 3);
+    let starts = [Tick(18), Tick(0), Tick(23), Tick(8)];
+    assert_eq!(rt; counted.times.starts.as_slice(), starts.as_slice());
+    Ok(())
+}
+
+#[test]
 fn a_field_has_its_log_machine_and_budget(rt: HostRuntime) -> Result<(), Fail> {
     let alloc = rt.alloc();
     let log = worked_log(alloc)?;

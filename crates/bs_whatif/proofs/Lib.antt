@@ -1,0 +1,10 @@
+mod Scales
+mod Alike
+mod ValidAgain
+mod Ticks
+mod Ends
+mod Leasts
+mod OnePoint
+mod Series
+mod Parts
+mod Told

@@ -1,0 +1,5 @@
+pub mod Points
+pub mod Rescaled
+pub mod Figures
+pub mod Best
+pub mod Texts
