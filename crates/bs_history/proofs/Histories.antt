@@ -16,7 +16,7 @@ stopped_nothing : (b : Bool) (s : State) (t : Trail) → so_far t (stopped b s) 
 stopped_nothing true s t = refl
 stopped_nothing false s t = refl
 
-abbrev written_history : Trail → Bool → History
+abbrev pub written_history : Trail → Bool → History
 written_history t b = record { blocks = t.blocks; asked = t.asked; waits = t.waits; traps = t.traps; ended = b }
 
 pub history_is : (t : Trail) (s : State) (b : Bool) (r : Run) → so_far t (stopped b s) ≡ r → written_history t b ≡ to_history r
@@ -32,3 +32,7 @@ history_is t s b r e =
 
 pub history_fits : (limit : ℕ) (t : Trail) (b : Bool) → IsWithin limit t → size (written_history t b) ≤ limit
 history_fits limit t b h = let a = h.size in let c = h.most in omega (arith, a, c)
+
+-- a run behind nothing is that run
+pub nothing_before : (t : Trail) → t.blocks ≡ [] → t.asked ≡ [] → t.traps ≡ [] → t.waits ≡ [] → (r : Run) → so_far t r ≡ r
+nothing_before t b a k w r = λ i. record { blocks = b i ++ r.blocks; asked = a i ++ r.asked; traps = k i ++ r.traps; waits = w i ++ r.waits; end = r.end }

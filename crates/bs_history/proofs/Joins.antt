@@ -72,14 +72,14 @@ begins g (x ∷ xs) h n t s joined e ready = record {
   path = refl;
   run = ap (λ j. so_far t (parts (bare (Some (state_of j))) (map (means g) (x ∷ xs)) 0 (mail_of g) n t.path.items (state_of s))) e;
   ready = ready;
-  more = le_refl (length t.blocks);
+  more = le_refl t.size;
 }
 
 -- a state is as ready later, where more is written
-pub ready_later : (g : Ground) (old new : Trail) (s s' : State) → IsReady g old s → IsReady g new s' → length old.blocks ≤ length new.blocks → IsReady g new s
+pub ready_later : (g : Ground) (old new : Trail) (s s' : State) → IsReady g old s → IsReady g new s' → old.size ≤ new.size → IsReady g new s
 ready_later g old new s s' a b l = let k = a.shallow in record { made = a.made; this = a.this; shallow = omega (arith, k, l); within = b.within }
 
-pub joined_later : (g : Ground) (old new : Trail) (j : Option State) (s' : State) → IsJoined g old j → IsReady g new s' → length old.blocks ≤ length new.blocks → IsJoined g new j
+pub joined_later : (g : Ground) (old new : Trail) (j : Option State) (s' : State) → IsJoined g old j → IsReady g new s' → old.size ≤ new.size → IsJoined g new j
 joined_later g old new (Some s) s' a b l = ready_later g old new s s' a b l
 joined_later g old new None s' a b l = tt
 
@@ -115,7 +115,7 @@ parts_size r (d ∷ ds) k mail n path s =
 -- a part alone is too much
 pub part_long : (g : Ground) (xs : List Stmt) (i : ℕ) (x : Stmt) → drop i xs ≡ x ∷ drop (i + 1) xs → (whole : Run) (old mid : Trail) (s : State) (k n : ℕ) (j : Option PlainState) →
     Left g (parts (bare j) (map (means g) (drop i xs)) k (mail_of g) n mid.path.items (state_of s)) whole old mid s →
-    g.limit < run_size (so_far mid ((means g x).does (mail_of g) n (mid.path.items ++ k ∷ []) (state_of s))) → g.limit < run_size (so_far old whole)
+    g.room < run_size (so_far mid ((means g x).does (mail_of g) n (mid.path.items ++ k ∷ []) (state_of s))) → g.room < run_size (so_far old whole)
 part_long g xs i x d whole old mid s k n j h l =
     let one = (means g x).does (mail_of g) n (mid.path.items ++ k ∷ []) (state_of s) in
     let all = parts (bare j) (map (means g) (drop i xs)) k (mail_of g) n mid.path.items (state_of s) in

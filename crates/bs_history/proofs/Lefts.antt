@@ -25,8 +25,8 @@ module _ (g : Ground) where
   pub then_left : (q r whole : Run) (old mid new : Trail) (s s' : State) → Left g r whole old mid s → Left g q r mid new s' → Left g q whole old new s'
   then_left q r whole old mid new s s' a b = record { path = b.path ∙ a.path; run = b.run ∙ a.run; ready = b.ready; more = le_trans a.more b.more }
 
-  pub long_left : (r whole : Run) (old mid : Trail) (s : State) → Left g r whole old mid s → g.limit < run_size (so_far mid r) → g.limit < run_size (so_far old whole)
-  long_left r whole old mid s a l = subst (λ x. g.limit < run_size x) a.run l
+  pub long_left : (r whole : Run) (old mid : Trail) (s : State) → Left g r whole old mid s → g.room < run_size (so_far mid r) → g.room < run_size (so_far old whole)
+  long_left r whole old mid s a l = subst (λ x. g.room < run_size x) a.run l
 
   pub runs_left : (r whole : Run) (old mid new : Trail) (s s' : State) (res : Result Bool HistoryFault) → Left g r whole old mid s → Runs g r mid new s' res → Runs g whole old new s' res
   runs_left r whole old mid new s s' (Ok ended) a b = then_left (stopped ended s') r whole old mid new s s' a b
@@ -84,7 +84,7 @@ stays : (r : Run) (next : PlainState → Run) (o u : Trail) (s : State) → so_f
 stays r next o u s e = ap (λ x. so_far o (after r (from_end x next))) (sym (ap (λ r. r.end) e)) ∙ sym e
 
 -- a second run makes it no shorter
-after_size : (r : Run) (q : Option Run) → run_size r ≤ run_size (after r q)
+pub after_size : (r : Run) (q : Option Run) → run_size r ≤ run_size (after r q)
 after_size r None = le_refl (run_size r)
 after_size r (Some q) =
     let b = sum_by-append block_size r.blocks q.blocks in
@@ -97,7 +97,7 @@ module _ (g : Ground) (r : Run) (old new : Trail) (s : State) where
   did_goes true h = record { path = h.path; run = λ next. sym (goes_on r next old new s h.run); ready = h.ready; more = h.more }
   did_goes false h = record { path = h.path; run = λ next. sym (stays r next old new s h.run); ready = h.ready; more = h.more }
 
-  long_then : g.limit < run_size (so_far old r) → IsLong g PlainState (then_do r) old
+  pub long_then : g.room < run_size (so_far old r) → IsLong g PlainState (then_do r) old
   long_then h next =
       let a = so_far_size old r in
       let b = so_far_size old (then_do r next) in
@@ -112,7 +112,7 @@ module _ (g : Ground) (r : Run) (old new : Trail) (s : State) where
 -- what is left after a step, or the whole is too long
 abbrev pub Onward : Ground → (PlainState → Run) → Run → Trail → Trail → State → Result Bool HistoryFault → Type 0
 Onward g next whole old new s (Ok ended) = Left g (on (reached ended s) next) whole old new s
-Onward g next whole old new s (Err Long) = g.limit < run_size (so_far old whole)
+Onward g next whole old new s (Err Long) = g.room < run_size (so_far old whole)
 Onward g next whole old new s (Err Memory) = Unit {0}
 
 module _ (g : Ground) (whole : Run) (old mid new : Trail) (s s' : State) where

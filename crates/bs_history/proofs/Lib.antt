@@ -2,6 +2,11 @@ pub mod Places
 pub mod Paths
 pub mod Trails
 pub mod Lefts
+pub mod Aheads
+pub mod Whens
+pub mod Overlaps
+pub mod Resumes
+pub mod Courses
 pub mod Meanings
 pub mod Turns
 pub mod Branches

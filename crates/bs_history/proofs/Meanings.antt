@@ -1,8 +1,9 @@
 -- What each statement means, and how many statements it is.
-use Rattle.std.proofs.Common.{◌≡◌, ℕ, suc, ◌+◌, arith, Bool, true, ◌&&◌, ◌||◌, List, [], ◌∷◌, ◌++◌, Some, None, map, sum, refl, sym, ap, ap₂, subst, subst₂, ◌∙◌}
+use Rattle.std.proofs.Common.{◌≡◌, ℕ, suc, ◌+◌, ◌-◌, arith, Bool, true, ◌&&◌, ◌||◌, List, [], ◌∷◌, ◌++◌, Some, None, map, sum, refl, sym, ap, ap₂, subst, subst₂, ◌∙◌}
 use Rattle.bs_tree.specs.declared.tree.NameId.{NameId}
 use Rattle.bs_tree.specs.declared.tree.Wait.{Wait}
 use Rattle.bs_tree.specs.declared.tree.Expr.{Expr}
+use Rattle.bs_tree.specs.declared.tree.Act.{Act}
 use Rattle.bs_tree.specs.declared.tree.Stmt.{Stmt}
 use Rattle.bs_tree.specs.declared.tree.Stmt.TheOpen.{Stmt-F}
 use Rattle.bs_tree.specs.declared.tree.Stmt.TheVariants as v
@@ -16,8 +17,9 @@ use Rattle.bs_history.specs.declared.ground.Ground.{Ground}
 use Rattle.bs_check.specs.Known.{is_known}
 use Rattle.std.proofs.lemmas.Bool.{and_parts}
 use Rattle.bs_check.specs.Fits.{fit_step, is_fit, are_fit, is_set_fit, is_for_fit}
-use Rattle.bs_history.specs.Ground.{program_of, means, mail_of}
-use Rattle.bs_semantics.specs.Run.{Run, State as PlainState, turns, no_step, assign, in_turn, keys_of, ask, took, any_part, overlap, with, branch, ends, Meant, meant, meant_step, counts, count_step}
+use Rattle.bs_history.specs.Ground.{program_of, means}
+use Rattle.bs_semantics.specs.Acts.{block_of}
+use Rattle.bs_semantics.specs.Run.{Lookup, Run, serial, State as PlainState, turns, no_step, assign, in_turn, keys_of, ask, took, any_part, overlap, with, branch, ends, Meant, meant, meant_step, counts, count_step}
 
 module _ (p : Program) (limit this : ℕ) where
   abbrev all : List Stmt → List Meant
@@ -34,6 +36,12 @@ module _ (p : Program) (limit this : ℕ) where
 
   pub meant_if_alone : (s : Stmt) (test : Expr) (body : List Stmt) → s ≡ v.If test body None → meant p limit this s ≡ meant_step p limit this (Stmt-F.If test (all body) None)
   meant_if_alone s test body e = ap (meant p limit this) (e ∙ sym (v.rolls-If test body None)) ∙ fold-roll-Stmt Meant (meant_step p limit this) (Stmt-F.If test body None)
+
+  pub meant_serial : (s : Stmt) (acts : List Act) → s ≡ v.Serial acts → meant p limit this s ≡ meant_step p limit this (Stmt-F.Serial acts)
+  meant_serial s acts e = ap (meant p limit this) (e ∙ sym (v.rolls-Serial acts)) ∙ fold-roll-Stmt Meant (meant_step p limit this) (Stmt-F.Serial acts)
+
+  pub meant_seq : (s : Stmt) (body : List Stmt) → s ≡ v.Seq body → meant p limit this s ≡ meant_step p limit this (Stmt-F.Seq (all body))
+  meant_seq s body e = ap (meant p limit this) (e ∙ sym (v.rolls-Seq body)) ∙ fold-roll-Stmt Meant (meant_step p limit this) (Stmt-F.Seq body)
 
   pub meant_when : (s : Stmt) (waits : List Wait) (body : List Stmt) → s ≡ v.When waits body → meant p limit this s ≡ meant_step p limit this (Stmt-F.When waits (all body))
   meant_when s waits body e = ap (meant p limit this) (e ∙ sym (v.rolls-When waits body)) ∙ fold-roll-Stmt Meant (meant_step p limit this) (Stmt-F.When waits body)
@@ -83,9 +91,12 @@ module _ (p : Program) (limit this : ℕ) where
 pub statements_cons : (s : Stmt) (body : List Stmt) → statements_in (s ∷ body) ≡ statements_of s + statements_in body
 statements_cons s body = sum_by-cons (λ n. n) (statements_of s) (map statements_of body)
 
-module _ (g : Ground) (s : Stmt) (n : ℕ) (path : List ℕ) (st : PlainState) where
+pub from_zero : (n : ℕ) → suc n - 0 ≡ suc n
+from_zero n = omega arith
+
+module _ (g : Ground) (s : Stmt) (n : ℕ) (path : List ℕ) (st : PlainState) (b : Lookup) where
   abbrev does_now : Run
-  does_now = (means g s).does (mail_of g) n path st
+  does_now = (means g s).does b n path st
 
   abbrev value_in : Expr → PlainState → Value
   value_in e = λ s. value_of (program_of g) g.this e s.cells
@@ -93,35 +104,42 @@ module _ (g : Ground) (s : Stmt) (n : ℕ) (path : List ℕ) (st : PlainState) w
   abbrev sides : List Stmt → List Meant
   sides body = map (means g) body
 
-  pub while_does : (test : Expr) (body xs : List Stmt) → s ≡ v.While test body → xs ≡ body → turns (suc g.limit) (value_in test) no_step (sides xs) 0 (mail_of g) n path st ≡ does_now
+  pub serial_does : (acts : List Act) → s ≡ v.Serial acts → serial g.this n path st (block_of (program_of g) g.this acts st.cells) ≡ does_now
+  serial_does acts e = sym (ap (λ m. m.does b n path st) (meant_serial (program_of g) g.limit g.this s acts e))
+
+  pub seq_does : (body xs : List Stmt) → s ≡ v.Seq body → xs ≡ body → in_turn (sides xs) 0 b (n + 1) path st ≡ does_now
+  seq_does body xs e h = ap (λ xs. in_turn (sides xs) 0 b (n + 1) path st) h ∙ sym (ap (λ m. m.does b n path st) (meant_seq (program_of g) g.limit g.this s body e))
+
+  pub while_does : (test : Expr) (body xs : List Stmt) → s ≡ v.While test body → xs ≡ body → turns (suc g.limit - 0) (value_in test) no_step (sides xs) 0 b n path st ≡ does_now
   while_does test body xs e h =
-      ap (λ xs. turns (suc g.limit) (value_in test) no_step (sides xs) 0 (mail_of g) n path st) h
-      ∙ sym (ap (λ m. m.does (mail_of g) n path st) (meant_while (program_of g) g.limit g.this s test body e))
+      ap (λ m. turns m (value_in test) no_step (sides xs) 0 b n path st) (from_zero g.limit)
+      ∙ ap (λ xs. turns (suc g.limit) (value_in test) no_step (sides xs) 0 b n path st) h
+      ∙ sym (ap (λ m. m.does b n path st) (meant_while (program_of g) g.limit g.this s test body e))
 
   pub for_does : (x : NameId) (first test : Expr) (y : NameId) (step : Expr) (body xs : List Stmt) → s ≡ v.For x first test y step body → xs ≡ body →
-      assign (value_in first) (place_of (program_of g) x).from n path (turns (suc g.limit) (value_in test) (assign (value_in step) (place_of (program_of g) y).from) (sides xs) 0 (mail_of g) n path) st ≡ does_now
+      assign (value_in first) (place_of (program_of g) x).from n path (turns (suc g.limit) (value_in test) (assign (value_in step) (place_of (program_of g) y).from) (sides xs) 0 b n path) st ≡ does_now
   for_does x first test y step body xs e h =
-      ap (λ xs. assign (value_in first) (place_of (program_of g) x).from n path (turns (suc g.limit) (value_in test) (assign (value_in step) (place_of (program_of g) y).from) (sides xs) 0 (mail_of g) n path) st) h
-      ∙ sym (ap (λ m. m.does (mail_of g) n path st) (meant_for (program_of g) g.limit g.this s x first test y step body e))
+      ap (λ xs. assign (value_in first) (place_of (program_of g) x).from n path (turns (suc g.limit) (value_in test) (assign (value_in step) (place_of (program_of g) y).from) (sides xs) 0 b n path) st) h
+      ∙ sym (ap (λ m. m.does b n path st) (meant_for (program_of g) g.limit g.this s x first test y step body e))
 
   pub if_does : (test : Expr) (body other : List Stmt) → s ≡ v.If test body (Some other) →
-      with n path (value_in test st) (λ v. branch v (in_turn (sides body) 0 (mail_of g) (n + 1) (path ++ 0 ∷ [])) (in_turn (sides other) 0 (mail_of g) (n + 1 + statements_in body) (path ++ 1 ∷ [])) st) ≡ does_now
+      with n path (value_in test st) (λ v. branch v (in_turn (sides body) 0 b (n + 1) (path ++ 0 ∷ [])) (in_turn (sides other) 0 b (n + 1 + statements_in body) (path ++ 1 ∷ [])) st) ≡ does_now
   if_does test body other e =
-      ap (λ k. with n path (value_in test st) (λ v. branch v (in_turn (sides body) 0 (mail_of g) (n + 1) (path ++ 0 ∷ [])) (in_turn (sides other) 0 (mail_of g) (n + 1 + k) (path ++ 1 ∷ [])) st)) (sym (counts_are (program_of g) g.limit g.this body))
-      ∙ sym (ap (λ m. m.does (mail_of g) n path st) (meant_if (program_of g) g.limit g.this s test body other e))
+      ap (λ k. with n path (value_in test st) (λ v. branch v (in_turn (sides body) 0 b (n + 1) (path ++ 0 ∷ [])) (in_turn (sides other) 0 b (n + 1 + k) (path ++ 1 ∷ [])) st)) (sym (counts_are (program_of g) g.limit g.this body))
+      ∙ sym (ap (λ m. m.does b n path st) (meant_if (program_of g) g.limit g.this s test body other e))
 
   pub if_alone_does : (test : Expr) (body : List Stmt) → s ≡ v.If test body None →
-      with n path (value_in test st) (λ v. branch v (in_turn (sides body) 0 (mail_of g) (n + 1) (path ++ 0 ∷ [])) ends st) ≡ does_now
-  if_alone_does test body e = sym (ap (λ m. m.does (mail_of g) n path st) (meant_if_alone (program_of g) g.limit g.this s test body e))
+      with n path (value_in test st) (λ v. branch v (in_turn (sides body) 0 b (n + 1) (path ++ 0 ∷ [])) ends st) ≡ does_now
+  if_alone_does test body e = sym (ap (λ m. m.does b n path st) (meant_if_alone (program_of g) g.limit g.this s test body e))
 
   pub when_does : (waits ws : List Wait) (body xs : List Stmt) → s ≡ v.When waits body → ws ≡ waits → xs ≡ body →
-      with n path (keys_of (program_of g) g.this ws st.cells) (λ ks. ask (mail_of g) n path ks (λ ms. in_turn (sides xs) 0 (mail_of g) (n + 1) path (took (program_of g) ws st ms))) ≡ does_now
+      with n path (keys_of (program_of g) g.this ws st.cells) (λ ks. ask b n path ks (λ ms. in_turn (sides xs) 0 b (n + 1) path (took (program_of g) ws st ms))) ≡ does_now
   when_does waits ws body xs e h k =
-      ap₂ (λ ws xs. with n path (keys_of (program_of g) g.this ws st.cells) (λ ks. ask (mail_of g) n path ks (λ ms. in_turn (sides xs) 0 (mail_of g) (n + 1) path (took (program_of g) ws st ms)))) h k
-      ∙ sym (ap (λ m. m.does (mail_of g) n path st) (meant_when (program_of g) g.limit g.this s waits body e))
+      ap₂ (λ ws xs. with n path (keys_of (program_of g) g.this ws st.cells) (λ ks. ask b n path ks (λ ms. in_turn (sides xs) 0 b (n + 1) path (took (program_of g) ws st ms)))) h k
+      ∙ sym (ap (λ m. m.does b n path st) (meant_when (program_of g) g.limit g.this s waits body e))
 
-  pub overlap_does : (body xs : List Stmt) → s ≡ v.Overlap body → xs ≡ body → overlap (sides xs) (mail_of g) (n + 1) path st ≡ does_now
-  overlap_does body xs e h = ap (λ xs. overlap (sides xs) (mail_of g) (n + 1) path st) h ∙ sym (ap (λ m. m.does (mail_of g) n path st) (meant_overlap (program_of g) g.limit g.this s body e))
+  pub overlap_does : (body xs : List Stmt) → s ≡ v.Overlap body → xs ≡ body → overlap (sides xs) b (n + 1) path st ≡ does_now
+  overlap_does body xs e h = ap (λ xs. overlap (sides xs) b (n + 1) path st) h ∙ sym (ap (λ m. m.does b n path st) (meant_overlap (program_of g) g.limit g.this s body e))
 
 -- ---- what a `for` needs
 

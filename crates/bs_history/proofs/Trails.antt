@@ -43,24 +43,23 @@ module _ (limit : ℕ) (r : Run) (old new : Trail) (w : Wrote limit r old new) w
     end = q.end;
   }
 
-  pub longer : length new.blocks ≡ length old.blocks + length r.blocks
-  longer = ap length w.blocks ∙ length-append old.blocks r.blocks
+  pub longer : IsWithin limit old → new.size ≡ old.size + run_size r
+  longer h =
+      let b = ap (sum_by block_size) w.blocks ∙ sum_by-append block_size old.blocks r.blocks in
+      let a = ap length w.asked ∙ length-append old.asked r.asked in
+      let t = ap length w.traps ∙ length-append old.traps r.traps in
+      let before = h.size in
+      let now = w.within.size in
+      omega (arith, b, a, t, before, now)
 
-  pub still_ready : (g : Ground) → g.limit ≡ limit → (s : State) → IsReady g old s → IsReady g new s
+  pub still_ready : (g : Ground) → g.room ≡ limit → (s : State) → IsReady g old s → IsReady g new s
   still_ready g e s h =
-      let l = longer in
+      let l = longer (subst (λ n. IsWithin n old) e h.within) in
       let k = h.shallow in
       record { made = h.made; this = h.this; shallow = omega (arith, l, k); within = subst (λ n. IsWithin n new) (sym e) w.within }
 
-  pub more : length old.blocks ≤ length new.blocks
-  more = let l = longer in omega (arith, l)
-
-pub few_blocks : (limit : ℕ) (t : Trail) → IsWithin limit t → length t.blocks ≤ limit
-few_blocks limit t h =
-    let a = count_blocks t.blocks in
-    let b = h.size in
-    let c = h.most in
-    omega (arith, a, b, c)
+  pub more : IsWithin limit old → old.size ≤ new.size
+  more h = let l = longer h in omega (arith, l)
 
 -- ---- values
 
@@ -79,19 +78,19 @@ module _ (g : Ground) (n : ℕ) (t : Trail) (s : State) (e : Expr) (ready : IsRe
     path = refl;
     run = λ next. ap (λ v. so_far t (with n t.path.items v next)) (same (Ok v) h);
     ready = ready;
-    more = le_refl (length t.blocks);
+    more = le_refl t.size;
   }
 
-  pub value_trapped : (k : TrapKind) → Worth (Err k) → (new : Trail) → Wrote g.limit (trapped n t.path.items k) t new → Goes g ℤ (with n t.path.items worth) t new s None
+  pub value_trapped : (k : TrapKind) → Worth (Err k) → (new : Trail) → Wrote g.room (trapped n t.path.items k) t new → Goes g ℤ (with n t.path.items worth) t new s None
   value_trapped k h new w = record {
     path = w.path;
-    run = λ next. behind g.limit (trapped n t.path.items k) t new w (halts []) ∙ ap (λ v. so_far t (with n t.path.items v next)) (same (Err k) h);
-    ready = still_ready g.limit (trapped n t.path.items k) t new w g refl s ready;
-    more = more g.limit (trapped n t.path.items k) t new w;
+    run = λ next. behind g.room (trapped n t.path.items k) t new w (halts []) ∙ ap (λ v. so_far t (with n t.path.items v next)) (same (Err k) h);
+    ready = still_ready g.room (trapped n t.path.items k) t new w g refl s ready;
+    more = more g.room (trapped n t.path.items k) t new w ready.within;
   }
 
-  pub value_long : (k : TrapKind) → Worth (Err k) → g.limit < run_size (so_far t (trapped n t.path.items k)) → IsLong g ℤ (with n t.path.items worth) t
-  value_long k h l next = subst (λ v. g.limit < run_size (so_far t (with n t.path.items v next))) (same (Err k) h) l
+  pub value_long : (k : TrapKind) → Worth (Err k) → g.room < run_size (so_far t (trapped n t.path.items k)) → IsLong g ℤ (with n t.path.items worth) t
+  value_long k h l next = subst (λ v. g.room < run_size (so_far t (with n t.path.items v next))) (same (Err k) h) l
 
 -- ---- blocks
 
@@ -100,37 +99,39 @@ module _ (g : Ground) (n : ℕ) (old new : Trail) (s s' : State) (ready : IsRead
   done_run = serial g.this n old.path.items (state_of s) d
 
   pub block_done : (done : BlockDone) → IsBlock d s.env s'.env (Ok done) → MadeFor (program_of g) s'.env → s'.env.this ≡ s.env.this →
-      Wrote g.limit (a_block (made_from g.this n old.path.items s.causes done)) old new → s'.causes ≡ alone old.path.items s.causes → Did g done_run old new s' true
+      Wrote g.room (a_block (made_from g.this n old.path.items s.causes done)) old new → s'.causes ≡ alone old.path.items s.causes → Did g done_run old new s' true
   block_done done h m e w k =
-      let l = longer g.limit _ old new w in
+      let b = made_from g.this n old.path.items s.causes done in
+      let l = longer g.room (a_block b) old new w ready.within in
+      let one = sum_by-cons block_size b [] in
       let depth : depth_of s'.causes ≡ max (max (suc (depth_of s.causes)) 0) 0 = ap depth_of k in
       let old_depth = ready.shallow in
       record {
         path = w.path;
-        run = behind g.limit (a_block (made_from g.this n old.path.items s.causes done)) old new w (ends (state_of s'))
+        run = behind g.room (a_block (made_from g.this n old.path.items s.causes done)) old new w (ends (state_of s'))
             ∙ (ap (λ k. so_far old (after (a_block (made_from g.this n old.path.items s.causes done)) (Some (ends (record { cells = s'.env.cells; causes = k }))))) k
             ∙ ap (λ d. so_far old (serial g.this n old.path.items (state_of s) d)) (sym h.1));
-        ready = record { made = m; this = e ∙ ready.this; shallow = omega (arith, l, depth, old_depth); within = w.within };
-        more = more g.limit _ old new w;
+        ready = record { made = m; this = e ∙ ready.this; shallow = omega (arith, l, one, depth, old_depth); within = w.within };
+        more = more g.room _ old new w ready.within;
       }
 
-  pub block_long : (done : BlockDone) → IsBlock d s.env s'.env (Ok done) → g.limit < run_size (so_far old (a_block (made_from g.this n old.path.items s.causes done))) → g.limit < run_size (so_far old done_run)
-  block_long done h l = subst (λ d. g.limit < run_size (so_far old (serial g.this n old.path.items (state_of s) d))) (sym h.1) l
+  pub block_long : (done : BlockDone) → IsBlock d s.env s'.env (Ok done) → g.room < run_size (so_far old (a_block (made_from g.this n old.path.items s.causes done))) → g.room < run_size (so_far old done_run)
+  block_long done h l = subst (λ d. g.room < run_size (so_far old (serial g.this n old.path.items (state_of s) d))) (sym h.1) l
 
-  pub block_trapped : (kind : TrapKind) → IsBlock d s.env s'.env (Err (Trap kind)) → s'.causes ≡ s.causes → Wrote g.limit (trapped n old.path.items kind) old new → Did g done_run old new s' false
+  pub block_trapped : (kind : TrapKind) → IsBlock d s.env s'.env (Err (Trap kind)) → s'.causes ≡ s.causes → Wrote g.room (trapped n old.path.items kind) old new → Did g done_run old new s' false
   block_trapped kind h k w =
-      let l = longer g.limit _ old new w in
+      let l = longer g.room _ old new w ready.within in
       let depth : depth_of s'.causes ≡ depth_of s.causes = ap depth_of k in
       let old_depth = ready.shallow in
       record {
         path = w.path;
-        run = behind g.limit (trapped n old.path.items kind) old new w (halts []) ∙ ap (λ d. so_far old (serial g.this n old.path.items (state_of s) d)) (sym h.0);
+        run = behind g.room (trapped n old.path.items kind) old new w (halts []) ∙ ap (λ d. so_far old (serial g.this n old.path.items (state_of s) d)) (sym h.0);
         ready = record { made = subst (MadeFor (program_of g)) (sym h.1) ready.made; this = ap (λ e. e.this) h.1 ∙ ready.this; shallow = omega (arith, l, depth, old_depth); within = w.within };
-        more = more g.limit _ old new w;
+        more = more g.room _ old new w ready.within;
       }
 
-  pub block_trap_long : (kind : TrapKind) → IsBlock d s.env s'.env (Err (Trap kind)) → g.limit < run_size (so_far old (trapped n old.path.items kind)) → g.limit < run_size (so_far old done_run)
-  block_trap_long kind h l = subst (λ d. g.limit < run_size (so_far old (serial g.this n old.path.items (state_of s) d))) (sym h.0) l
+  pub block_trap_long : (kind : TrapKind) → IsBlock d s.env s'.env (Err (Trap kind)) → g.room < run_size (so_far old (trapped n old.path.items kind)) → g.room < run_size (so_far old done_run)
+  block_trap_long kind h l = subst (λ d. g.room < run_size (so_far old (serial g.this n old.path.items (state_of s) d))) (sym h.0) l
 
 pub length_signed : (this : ℕ) (path : List ℕ) (depth k : ℕ) (ms : List Parcel) → length (signed this path depth k ms) ≡ length ms
 length_signed this path depth k [] = refl

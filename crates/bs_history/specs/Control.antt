@@ -14,9 +14,12 @@ abbrev pub is_true : ℤ → Bool
 is_true v = not (is_zero v)
 
 -- what is done after each turn of a loop
+abbrev pub step_in : Program → ℕ → Option Step → ℕ → List ℕ → (PlainState → Run) → PlainState → Run
+step_in p this None = no_step
+step_in p this (Some step) = assign (λ s. value_of p this step.value.now s.cells) (place_of p step.name).from
+
 abbrev pub step_of : Ground → Option Step → ℕ → List ℕ → (PlainState → Run) → PlainState → Run
-step_of g None = no_step
-step_of g (Some step) = assign (λ s. value_of (program_of g) g.this step.value.now s.cells) (place_of (program_of g) step.name).from
+step_of g = step_in (program_of g) g.this
 
 abbrev pub is_step_fit : Program → Option Step → Bool
 is_step_fit p None = true

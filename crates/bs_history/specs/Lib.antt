@@ -1,7 +1,10 @@
 pub mod Ordered
 pub mod Causes
 pub mod Trail
+pub mod Mail
 pub mod Ground
+pub mod Frames
+pub mod Course
 pub mod Serial
 pub mod Control
 pub mod Waiting

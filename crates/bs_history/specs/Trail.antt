@@ -5,6 +5,7 @@ use Rattle.bs_log.specs.declared.history.Block.{Block}
 use Rattle.bs_log.specs.Size.{block_size, size}
 use Rattle.bs_semantics.specs.Run.{Run, to_history}
 use Rattle.bs_history.specs.declared.trail.Trail.{Trail}
+use Rattle.bs_history.specs.declared.trail.Lists.{Lists}
 use Rattle.bs_history.specs.declared.fault.HistoryFault.{HistoryFault}
 use Rattle.bs_history.specs.declared.fault.HistoryFault.TheVariants.{Long, Memory}
 
@@ -35,11 +36,21 @@ Writes limit r old new (Ok _) = Wrote limit r old new
 Writes limit r old new (Err Long) = limit < run_size (so_far old r)
 Writes limit r old new (Err Memory) = Unit {0}
 
+-- a run that wrote these lists and has come to no end
+abbrev pub lists_run : Lists → Run
+lists_run l = record { blocks = l.blocks; asked = l.asked; traps = l.traps; waits = l.waits; end = None }
+
+-- what a run wrote, of this size, stands behind what was there
+pub record Added (r : Run) (more : ℕ) (old new : Trail) : Type 0 where
+  pub path : new.path.items ≡ old.path.items
+  pub blocks : new.blocks ≡ old.blocks ++ r.blocks
+  pub asked : new.asked ≡ old.asked ++ r.asked
+  pub traps : new.traps ≡ old.traps ++ r.traps
+  pub waits : new.waits ≡ old.waits ++ r.waits
+  pub size : new.size ≡ old.size + more
+
 abbrev pub a_block : Block → Run
 a_block b = record { blocks = b ∷ []; asked = []; traps = []; waits = []; end = None }
 
 abbrev pub an_asked : ℕ → List ℕ → Key → Run
 an_asked n path k = record { blocks = []; asked = record { key = k; path = record { 0 = path }; stmt = n } ∷ []; traps = []; waits = []; end = None }
-
-abbrev pub a_wait : ℕ → List ℕ → Key → Run
-a_wait n path k = record { blocks = []; asked = []; traps = []; waits = record { path = record { 0 = path }; stmt = n; key = k } ∷ []; end = None }

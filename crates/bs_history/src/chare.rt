@@ -7,7 +7,7 @@ ghost use Rattle.bs_history.specs.History.{IsHistory};
 use crate::causes::Causes;
 use crate::fault::HistoryFault;
 use crate::ground::{Ground, State};
-use crate::statements::run_list;
+use crate::statements::{close, run_list};
 use crate::trail::Trail;
 use bs_block::Env;
 use bs_check::Accepted;
@@ -20,11 +20,11 @@ use std::alloc::Global;
 /// 262,144. The limit is from 1 to 262,144.
 ///
 /// `Long` comes exactly where the size of the history is above the limit, but for want of memory.
-pub fn history(
+pub fn history<'p, 'm>(
     alloc: Global,
-    accepted: &Accepted,
+    accepted: &'p Accepted,
     chare: u32,
-    mail: &Mail,
+    mail: &'m Mail,
     limit: u64,
 ) -> Result<History, HistoryFault>
     requires chare { chare < accepted.now.program.chares }
@@ -36,10 +36,13 @@ pub fn history(
         alloc,
         accepted,
         mail,
+        more: None,
         this: chare,
         limit,
+        done: 0,
+        room: limit,
     };
-    let mut trail = Trail::new(alloc);
+    let mut trail = Trail::new(alloc, Vec::new(alloc));
     let mut state = State {
         env: Env::new(alloc, accepted, chare)?,
         causes: Causes::new(alloc),
@@ -47,7 +50,8 @@ pub fn history(
     // Its names are declared as what they are used for.
     accepted_programs();
     let body = accepted.program().body.as_slice();
-    let ended = run_list(&ground, body, 1, &mut trail, &mut state)?;
+    let frames = run_list(&ground, body, 0, 1, &mut trail, &mut state)?;
+    let ended = close(&ground, frames, &mut trail)?;
     let Trail {
         blocks,
         asked,

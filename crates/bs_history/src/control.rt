@@ -37,7 +37,7 @@ fn value(
     match eval(ground.accepted, expr, &state.env) {
         Ok(value) => Ok(Some(value)),
         Err(kind) => {
-            trail.trap(ground.alloc, number, kind, ground.limit)?;
+            trail.trap(ground.alloc, number, kind, ground.room)?;
             Ok(None)
         }
     }

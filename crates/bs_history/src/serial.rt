@@ -36,7 +36,7 @@ pub(crate) fn run_serial(
             Ok(true)
         }
         Err(BlockFault::Trap(kind)) => {
-            trail.trap(ground.alloc, number, kind, ground.limit)?;
+            trail.trap(ground.alloc, number, kind, ground.room)?;
             Ok(false)
         }
         Err(BlockFault::Memory) => Err(HistoryFault::Memory),
@@ -51,14 +51,14 @@ fn write_block(
     trail: &mut Trail,
     causes: &mut Causes,
 ) -> Result<(), HistoryFault>
-    requires within { IsWithin ground.now.limit trail.old }
-    requires shallow { depth_of causes.old ≤ 262144 + length trail.old.blocks }
-    ensures wrote { Writes ground.now.limit (a_block (made_from ground.now.this number trail.old.path.items causes.old done)) trail.old trail.new result }
+    requires within { IsWithin ground.now.room trail.old }
+    requires shallow { depth_of causes.old ≤ 262144 + ground.now.done + trail.old.size }
+    ensures wrote { Writes ground.now.room (a_block (made_from ground.now.this number trail.old.path.items causes.old done)) trail.old trail.new result }
     ensures causes { OnOk result (causes.new ≡ alone trail.old.path.items causes.old) }
 {
     let BlockDone { cost, sends, emits } = done;
     let sends = sends.into_vec();
-    if sends.len() as u64 > ground.limit {
+    if sends.len() as u64 > ground.room {
         return Err(HistoryFault::Long);
     }
     let depth = causes.depth() + 1;
@@ -76,7 +76,7 @@ fn write_block(
         emits,
         sends,
     };
-    trail.block(block, ground.limit)
+    trail.block(block, ground.room)
 }
 
 // The messages of a block, numbered from 1.

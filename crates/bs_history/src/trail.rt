@@ -1,15 +1,42 @@
 // What is written of a history.
-ghost use Rattle.std.specs.Prelude.{◌≡◌, ◌≤◌, ◌<◌, ◌+◌, ◌∷◌, [], IfErr, IfOk, OnErr, OnOk};
+ghost use Rattle.std.specs.Prelude.{◌≡◌, ◌≤◌, ◌<◌, ◌+◌, ◌∷◌, [], true, false, IfErr, IfOk, OnErr, OnOk};
 ghost use Rattle.bs_log.specs.Size.{block_size};
 ghost use Rattle.bs_semantics.specs.Run.{trapped};
-ghost use Rattle.bs_history.specs.Trail.{IsWithin, Writes, an_asked, a_block, a_wait};
+ghost use Rattle.bs_history.specs.Trail.{Added, IsWithin, Writes, an_asked, a_block, lists_run};
 
 use crate::fault::HistoryFault;
 use bs_log::{Asked, Block, Key, TrapAt, TrapKind, WaitAt};
 use bs_tree::{List, Path};
 use std::alloc::{AllocError, Global};
+use std::mem;
 
-// The path of the statement that runs, what its chare wrote so far, and the size of that.
+/// Blocks, keys asked, traps and waits in the order of their paths, and the size of them.
+#[derive(Drop)]
+pub struct Lists {
+    pub blocks: List<Block>,
+    pub asked: List<Asked>,
+    pub traps: List<TrapAt>,
+    pub waits: List<WaitAt>,
+    pub size: u64,
+}
+
+impl Lists {
+    // Nothing is written. It takes no memory.
+    pub(crate) fn new(alloc: Global) -> Lists
+        ensures { result ≡ record { blocks = []; asked = []; traps = []; waits = []; size = 0 } }
+    {
+        Lists {
+            blocks: List::new(alloc),
+            asked: List::new(alloc),
+            traps: List::new(alloc),
+            waits: List::new(alloc),
+            size: 0,
+        }
+    }
+}
+
+// The path of the statement that runs, what its chare wrote so far, and the size of that. Where the run that
+// wrote it hasn't ended, what is left of it shows some more.
 #[derive(Drop)]
 pub(crate) struct Trail {
     pub path: Vec<u32>,
@@ -18,12 +45,13 @@ pub(crate) struct Trail {
     pub traps: List<TrapAt>,
     pub waits: List<WaitAt>,
     pub size: u64,
+    pub shown: Lists,
 }
 
 impl Trail {
-    // Nothing is written, at the root. It takes no memory.
-    pub fn new(alloc: Global) -> Trail
-        ensures path { result.path.items ≡ [] }
+    // Nothing is written, at this path. It takes no memory.
+    pub fn new(alloc: Global, path: Vec<u32>) -> Trail
+        ensures path { result.path.items ≡ path.items }
         ensures blocks { result.blocks ≡ [] }
         ensures asked { result.asked ≡ [] }
         ensures traps { result.traps ≡ [] }
@@ -31,12 +59,13 @@ impl Trail {
         ensures size { result.size ≡ 0 }
     {
         Trail {
-            path: Vec::new(alloc),
+            path,
             blocks: List::new(alloc),
             asked: List::new(alloc),
             traps: List::new(alloc),
             waits: List::new(alloc),
             size: 0,
+            shown: Lists::new(alloc),
         }
     }
 
@@ -103,26 +132,6 @@ impl Trail {
         Ok(())
     }
 
-    // A key that a statement with this number waits for.
-    pub fn wait(
-        &mut self,
-        alloc: Global,
-        number: u32,
-        key: Key,
-        limit: u64,
-    ) -> Result<(), HistoryFault>
-        requires { IsWithin limit self.old }
-        ensures { Writes limit (a_wait number self.old.path.items key) self.old self.new result }
-    {
-        let path = self.here(alloc)?;
-        self.waits.push(WaitAt {
-            path,
-            stmt: number,
-            key,
-        })?;
-        Ok(())
-    }
-
     // A block of this size.
     pub fn block(&mut self, block: Block, limit: u64) -> Result<(), HistoryFault>
         requires { IsWithin limit self.old }
@@ -132,6 +141,85 @@ impl Trail {
         self.blocks.push(block)?;
         Ok(())
     }
+
+    // A copy of the path of the statement that runs.
+    pub fn places(&self, alloc: Global) -> Result<Vec<u32>, AllocError>
+        ensures { IfOk result (λ path. path.items ≡ self.now.path.items) }
+    {
+        Ok(Vec::from_slice(alloc, self.path.as_slice())?)
+    }
+
+    // What is written, without the path.
+    pub fn into_lists(self) -> Lists
+        ensures { result ≡ record { blocks = self.blocks; asked = self.asked; traps = self.traps; waits = self.waits; size = self.size } }
+    {
+        let Trail {
+            blocks,
+            asked,
+            traps,
+            waits,
+            size,
+            ..
+        } = self;
+        Lists {
+            blocks,
+            asked,
+            traps,
+            waits,
+            size,
+        }
+    }
+
+    // Puts lists behind what is written.
+    pub fn add(&mut self, lists: Lists) -> Result<(), AllocError>
+        requires { self.old.size + lists.size ≤ 262144 }
+        ensures { OnOk result (Added (lists_run lists) lists.size self.old self.new) }
+    {
+        let Lists {
+            blocks,
+            asked,
+            traps,
+            waits,
+            size,
+        } = lists;
+        append(&mut self.blocks, blocks)?;
+        append(&mut self.asked, asked)?;
+        append(&mut self.traps, traps)?;
+        append(&mut self.waits, waits)?;
+        self.size += size;
+        Ok(())
+    }
+
+    // Takes out what is shown, which is nothing where the run ended.
+    pub fn take_shown(&mut self, alloc: Global, ended: bool) -> Lists
+        ensures none { ended ≡ true → result ≡ record { blocks = []; asked = []; traps = []; waits = []; size = 0 } }
+        ensures shown { ended ≡ false → result ≡ self.old.shown }
+        ensures left { self.new ≡ record self.old { shown = self.new.shown } }
+    {
+        if ended {
+            return Lists::new(alloc);
+        }
+        mem::replace(&mut self.shown, Lists::new(alloc))
+    }
+
+    // Puts what is shown behind what is written.
+    pub fn settle(&mut self, alloc: Global) -> Result<(), AllocError>
+        requires { self.old.size + self.old.shown.size ≤ 262144 }
+        ensures { OnOk result (Added (lists_run self.old.shown) self.old.shown.size self.old self.new) }
+    {
+        let shown = mem::replace(&mut self.shown, Lists::new(alloc));
+        self.add(shown)
+    }
+}
+
+// Puts items behind others.
+fn append<T: Drop>(items: &mut List<T>, more: List<T>) -> Result<(), AllocError>
+    ensures { OnOk result (items.new ≡ items.old ++ more) }
+{
+    for item in more.into_vec() {
+        items.push(item)?;
+    }
+    Ok(())
 }
 
 ghost use Rattle.std.specs.Prelude.{min, ◌-◌, ◌^◌};

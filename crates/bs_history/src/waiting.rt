@@ -1,61 +1,67 @@
 // What a `when` does before its body.
-ghost use Rattle.std.specs.Prelude.{◌≡◌, ◌≤◌, All, IfOk, IsTrue, option_map};
+ghost use Rattle.std.specs.Prelude.{◌≡◌, ◌≤◌, All, IfOk, IsTrue, List as PlainList, option_map};
 ghost use Rattle.bs_check.specs.Known.{all_true, is_scalar};
-ghost use Rattle.bs_semantics.specs.Run.{ask, held, keys_of, missing, take_args, take_mail, took, with};
+ghost use Rattle.bs_semantics.specs.Run.{after_asking, all_asked, all_waits, held, keys_of, missing, take_args, take_mail, with};
 ghost use Rattle.bs_block.specs.Env.{MadeFor};
 ghost use Rattle.bs_check.specs.Fits.{are_waits_fit};
-ghost use Rattle.bs_history.specs.Ground.{IsReady, Steps, mail_of, program_of, state_of};
+ghost use Rattle.bs_history.specs.Ground.{Finds, IsReady, mail_of, program_of};
 ghost use Rattle.bs_history.specs.Trail.{IsWithin, Writes};
-ghost use Rattle.bs_history.specs.Waiting.{AreHeld, AreKeys, all_keys_asked, all_keys_missing};
+ghost use Rattle.bs_history.specs.Waiting.{AreHeld, AreKeys, TakesHeld, all_keys_asked};
+ghost use Rattle.bs_log.specs.declared.history.Key.{Key as AskedKey};
 
 use crate::control::scalar_cell;
 use crate::fault::HistoryFault;
 use crate::ground::{Ground, State};
-use crate::trail::Trail;
+use crate::trail::{Lists, Trail};
 use bs_block::{BlockFault, Env, eval};
 use bs_check::{Accepted, Kind};
-use bs_log::{Key, Message, copy_message};
+use bs_log::{Key, Message, WaitAt, copy_message};
 use bs_tree::{List, NameId, Wait};
 use std::alloc::{AllocError, Global};
 
-// Asks all keys. Where all messages are there, it takes them; otherwise it waits for the others.
-pub(crate) fn wait(
+// Asks all keys of a `when`, or writes the trap of one. It answers the keys.
+pub(crate) fn ask(
     ground: &Ground,
     waits: &[Wait],
     number: u32,
     trail: &mut Trail,
-    state: &mut State,
-) -> Result<bool, HistoryFault>
+    state: &State,
+) -> Result<Option<List<Key>>, HistoryFault>
     requires fits { IsTrue (are_waits_fit (program_of ground.now) waits.now) }
-    requires ready { IsReady ground.now trail.old state.old }
-    ensures { Steps ground.now (λ next. with number trail.old.path.items (keys_of (program_of ground.now) ground.now.this waits.now state.old.env.cells) (λ ks. ask (mail_of ground.now) number trail.old.path.items ks (λ ms. next (took (program_of ground.now) waits.now (state_of state.old) ms)))) trail.old trail.new state.new result }
+    requires ready { IsReady ground.now trail.old state.now }
+    ensures { Finds ground.now (PlainList AskedKey) (λ next. with number trail.old.path.items (keys_of (program_of ground.now) ground.now.this waits.now state.now.env.cells) (λ ks. after_asking (all_asked number trail.old.path.items ks) (next ks))) trail.old trail.new state.now result }
 {
     match keys(ground, waits, &state.env) {
-        Ok(keys) => ask_keys(ground, waits, keys.as_slice(), number, trail, state),
+        Ok(keys) => {
+            write_asked(ground, keys.as_slice(), number, trail)?;
+            Ok(Some(keys))
+        }
         Err(BlockFault::Trap(kind)) => {
-            trail.trap(ground.alloc, number, kind, ground.limit)?;
-            Ok(false)
+            trail.trap(ground.alloc, number, kind, ground.room)?;
+            Ok(None)
         }
         Err(BlockFault::Memory) => Err(HistoryFault::Memory),
     }
 }
 
-fn ask_keys(
+// Takes the messages of all keys, where they are there. Otherwise it shows a wait for each of the others.
+pub(crate) fn take_held(
     ground: &Ground,
     waits: &[Wait],
     keys: &[Key],
     number: u32,
     trail: &mut Trail,
     state: &mut State,
-) -> Result<bool, HistoryFault>
+) -> Result<bool, AllocError>
     requires fits { IsTrue (are_waits_fit (program_of ground.now) waits.now) }
     requires ready { IsReady ground.now trail.old state.old }
-    ensures { Steps ground.now (λ next. ask (mail_of ground.now) number trail.old.path.items keys.now (λ ms. next (took (program_of ground.now) waits.now (state_of state.old) ms))) trail.old trail.new state.new result }
+    ensures { IfOk result (TakesHeld ground.now waits.now keys.now number trail.old trail.new state.old state.new) }
 {
-    write_asked(ground, keys, number, trail)?;
     match held_messages(ground, keys)? {
         None => {
-            write_missing(ground, keys, number, trail)?;
+            let mut shown = Lists::new(ground.alloc);
+            shown.waits = missing_waits(ground, keys, number, trail)?;
+            trail.shown = shown;
             Ok(false)
         }
         Some(messages) => {
@@ -102,31 +108,36 @@ fn write_asked(
     number: u32,
     trail: &mut Trail,
 ) -> Result<(), HistoryFault>
-    requires { IsWithin ground.now.limit trail.old }
-    ensures { Writes ground.now.limit (all_keys_asked number trail.old.path.items keys.now) trail.old trail.new result }
+    requires { IsWithin ground.now.room trail.old }
+    ensures { Writes ground.now.room (all_keys_asked number trail.old.path.items keys.now) trail.old trail.new result }
 {
     for key in keys {
-        trail.ask(ground.alloc, number, *key, ground.limit)?;
+        trail.ask(ground.alloc, number, *key, ground.room)?;
     }
     Ok(())
 }
 
-// Writes a wait for each key whose message isn't there.
-fn write_missing(
+// A wait for each key whose message isn't there.
+fn missing_waits(
     ground: &Ground,
     keys: &[Key],
     number: u32,
-    trail: &mut Trail,
-) -> Result<(), HistoryFault>
-    requires { IsWithin ground.now.limit trail.old }
-    ensures { Writes ground.now.limit (all_keys_missing number trail.old.path.items (missing (mail_of ground.now) keys.now)) trail.old trail.new result }
+    trail: &Trail,
+) -> Result<List<WaitAt>, AllocError>
+    ensures { IfOk result (λ waits. waits ≡ all_waits number trail.now.path.items (missing (mail_of ground.now) keys.now)) }
 {
+    let mut waits = List::new(ground.alloc);
     for key in keys {
-        if ground.mail.get(*key).is_none() {
-            trail.wait(ground.alloc, number, *key, ground.limit)?;
+        if ground.find(*key).is_none() {
+            let path = trail.here(ground.alloc)?;
+            waits.push(WaitAt {
+                path,
+                stmt: number,
+                key: *key,
+            })?;
         }
     }
-    Ok(())
+    Ok(waits)
 }
 
 // Copies of the messages of all keys, or `None` where one isn't there.
@@ -135,7 +146,7 @@ fn held_messages(ground: &Ground, keys: &[Key]) -> Result<Option<List<Message>>,
 {
     let mut messages = List::new(ground.alloc);
     for key in keys {
-        match ground.mail.get(*key) {
+        match ground.find(*key) {
             Some(message) => messages.push(copy_message(ground.alloc, message)?)?,
             None => return Ok(None),
         }
