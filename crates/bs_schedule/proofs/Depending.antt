@@ -54,12 +54,43 @@ adds_push k x xs old mid new h has e i j = rw e (to (cases_eq i x), from (cases_
     from w (inl m) = kept w ((h i j).1 (inl m))
     from w (inr d) = by_place w d.0 (mem_cases i xs (x ∷ []) d.1)
 
+pub adds_one : (k x : ℕ) (old new : List (List ℕ)) → x < length old → new ≡ set old x (get_or old x [] ++ k ∷ []) → Adds k (x ∷ []) old new
+adds_one k x old new has e = adds_push k x [] old old new (no_adds k old) has e
+
+-- a row that stands there already needn't be added
+pub adds_again : (k x : ℕ) (old : List (List ℕ)) → Mem k (get_or old x []) → Adds k (x ∷ []) old old
+adds_again k x old has i j = (λ m. inl m, there)
+  where
+    there : Mem j (get_or old i []) ⊎ ((j ≡ k) × Mem i (x ∷ [])) → Mem j (get_or old i [])
+    there (inl m) = m
+    there (inr (g, inl q)) = rw (g, q) has
+    there (inr (g, inr m)) = absurd m
+
+then_adds : (k x : ℕ) (xs : List ℕ) (old mid new : List (List ℕ)) → Adds k xs old mid → Adds k (x ∷ []) mid new → Adds k (xs ++ x ∷ []) old new
+then_adds k x xs old mid new a b i j = (λ m. to ((b i j).0 m), from)
+  where
+    wider : Mem j (get_or old i []) ⊎ ((j ≡ k) × Mem i xs) → Mem j (get_or old i []) ⊎ ((j ≡ k) × Mem i (xs ++ x ∷ []))
+    wider (inl m) = inl m
+    wider (inr d) = inr (d.0, mem_left i xs (x ∷ []) d.1)
+
+    to : Mem j (get_or mid i []) ⊎ ((j ≡ k) × Mem i (x ∷ [])) → Mem j (get_or old i []) ⊎ ((j ≡ k) × Mem i (xs ++ x ∷ []))
+    to (inl m) = wider ((a i j).0 m)
+    to (inr d) = inr (d.0, mem_right i xs (x ∷ []) d.1)
+
+    by_place : j ≡ k → Mem i xs ⊎ Mem i (x ∷ []) → Mem j (get_or new i [])
+    by_place g (inl m) = (b i j).1 (inl ((a i j).1 (inr (g, m))))
+    by_place g (inr m) = (b i j).1 (inr (g, m))
+
+    from : Mem j (get_or old i []) ⊎ ((j ≡ k) × Mem i (xs ++ x ∷ [])) → Mem j (get_or new i [])
+    from (inl m) = (b i j).1 (inl ((a i j).1 (inl m)))
+    from (inr d) = by_place d.0 (mem_cases i xs (x ∷ []) d.1)
+
 map_push : (cs : List Cause) (c : Cause) → map (λ c. c.row) (cs ++ c ∷ []) ≡ map (λ c. c.row) cs ++ c.row ∷ []
 map_push [] c = refl
 map_push (x ∷ xs) c = ap (λ ys. x.row ∷ ys) (map_push xs c)
 
-pub adds_more : (k i : ℕ) (cs : List Cause) (d : Cause) (old mid new : List (List ℕ)) → i < length cs → Adds k (map (λ c. c.row) (take i cs)) old mid → (get_or cs i d).row < length mid → new ≡ set mid (get_or cs i d).row (get_or mid (get_or cs i d).row [] ++ k ∷ []) → Adds k (map (λ c. c.row) (take (i + 1) cs)) old new
-adds_more k i cs d old mid new h a has e = rw (take_more cs i d h, map_push (take i cs) (get_or cs i d)) (adds_push k (get_or cs i d).row (map (λ c. c.row) (take i cs)) old mid new a has e)
+pub adds_more : (k i : ℕ) (cs : List Cause) (d : Cause) (old mid new : List (List ℕ)) → i < length cs → Adds k (map (λ c. c.row) (take i cs)) old mid → Adds k ((get_or cs i d).row ∷ []) mid new → Adds k (map (λ c. c.row) (take (i + 1) cs)) old new
+adds_more k i cs d old mid new h a b = rw (take_more cs i d h, map_push (take i cs) (get_or cs i d)) (then_adds k (get_or cs i d).row (map (λ c. c.row) (take i cs)) old mid new a b)
 
 pub dependants_more : (causes : List (List Cause)) (k : ℕ) (old new : List (List ℕ)) → 1 ≤ k → DependantsAre causes k old → Adds k (map (λ c. c.row) (get_or causes k [])) old new → DependantsAre causes (k + 1) new
 dependants_more causes k old new low h a i j = (λ m. to ((a i j).0 m), λ d. (a i j).1 (from d (cases_eq j k)))

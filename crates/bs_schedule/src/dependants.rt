@@ -1,5 +1,6 @@
 // The rows of which each row is a cause.
-ghost use Rattle.std.specs.Prelude.{◌≡◌, ◌<◌, ◌≤◌, ◌^◌, ◌++◌, ◌∷◌, [], ℕ, length, slice_index_or, slice_set, IfOk, OnOk};
+ghost use Rattle.std.specs.Prelude.{◌≡◌, ◌<◌, ◌≤◌, ◌^◌, ◌∷◌, [], ℕ, IsTrue, length, slice_index_or, IfOk, OnOk};
+ghost use Rattle.bs_log.specs.Lists.{Mem};
 ghost use Rattle.bs_schedule.specs.Plan.{CausesFit, causing};
 ghost use Rattle.bs_schedule.specs.Dependants.{Adds, DependantsAre};
 
@@ -55,12 +56,24 @@ fn add_dependants(lists: &mut Vec<List<u32>>, row: u32, causes: &[Cause]) -> Res
     Ok(())
 }
 
-// Adds a row to the dependants of one of its causes.
+// Adds a row to the dependants of one of its causes, where it isn't the last of them already: a row that
+// has many messages from one other row is listed once.
 fn add_dependant(lists: &mut Vec<List<u32>>, cause: u32, row: u32) -> Result<(), AllocError>
     requires { cause < length lists.old.items }
     ensures length { length lists.new.items ≡ length lists.old.items }
-    ensures added { OnOk result (lists.new.items ≡ slice_set lists.old.items cause (slice_index_or lists.old.items cause [] ++ row ∷ [])) }
+    ensures added { OnOk result (Adds row (cause ∷ []) lists.old.items lists.new.items) }
 {
-    lists[cause as usize].push(row)?;
+    if !is_last(row, lists[cause as usize].as_slice()) {
+        lists[cause as usize].push(row)?;
+    }
     Ok(())
+}
+
+fn is_last(row: u32, rows: &[u32]) -> bool
+    ensures { IsTrue result → Mem row rows.now }
+{
+    match rows.last() {
+        Some(last) => *last == row,
+        None => false,
+    }
 }
