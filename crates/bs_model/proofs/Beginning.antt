@@ -1,18 +1,17 @@
 -- The state before any block is started.
-use Rattle.std.proofs.Common.{◌≡◌, ◌≤◌, ◌<◌, ℕ, zero, suc, List, [], ◌∷◌, Option, Some, None, length, slice_get, get_or, replicate, refl, sym, ap, subst, ◌∙◌, arith}
+use Rattle.std.proofs.Common.{◌≡◌, ◌≤◌, ◌<◌, ℕ, List, [], ◌∷◌, Option, Some, None, slice_get, get_or, sym, ap, subst, ◌∙◌, arith}
 use Rattle.bs_tree.specs.declared.tree.Program.{Program}
 use Rattle.bs_log.specs.declared.history.Message.{Message}
 use Rattle.bs_log.specs.declared.history.History.{History}
 use Rattle.bs_log.specs.Size.{size, size_all}
 use Rattle.bs_machine.specs.declared.fitted.Fitted.{Fitted}
-use Rattle.bs_machine.specs.Fitted.{processors_of}
 use Rattle.bs_match.specs.Mail.{lookup}
 use Rattle.bs_semantics.specs.Run.{history}
 use Rattle.bs_semantics.specs.Rounds.{CleanAt, histories, mail_to}
 use Rattle.bs_semantics.proofs.Starting.{partly}
 use Rattle.bs_model.specs.declared.book.Book.{Book}
-use Rattle.bs_model.specs.declared.candidates.Best.{Best}
 use Rattle.bs_model.specs.declared.state.State.{State}
+use Rattle.bs_model.specs.Agenda.{IsAgenda}
 use Rattle.bs_model.specs.Book.{at_key, found, keyed}
 use Rattle.bs_model.specs.Mails.{IsSize, mail_in}
 use Rattle.bs_model.specs.Next.{best_among}
@@ -43,30 +42,26 @@ none_booked m book e c path b f =
     let none : found book c path ≡ None = ap (λ es. at_key es (c ∷ path)) e in
     absurd (cc)
 
-pub all_zero : (n q : ℕ) → ◌≡◌ {A = ℕ} (get_or (replicate {A = ℕ} n 0) q 0) 0
-all_zero zero q = refl
-all_zero (suc n) zero = refl
-all_zero (suc n) (suc q) = all_zero n q
-
-pub follows_none : (p : Program) (limit : ℕ) (m : Fitted) (t : State) → keyed t.book ≡ [] → length t.ends.items ≡ processors_of m → ((q : ℕ) → get_or t.ends.items q 0 ≡ 0)
+pub follows_none : (p : Program) (limit : ℕ) (m : Fitted) (t : State) → keyed t.book ≡ [] → IsAgenda m t.agenda → ((q : ℕ) → get_or t.agenda.ends.items q 0 ≡ 0)
     → Pushed (λ (c : ℕ) (o : Option (List Message)). o ≡ Some []) p.chares t.mails.items
     → Pushed (λ (c : ℕ) (o : Option History). o ≡ Some (history p limit c (lookup []))) p.chares t.histories.items
-    → Pushed (λ (c : ℕ) (o : Option (Option Best)). best_among m t.book c (Some (history p limit c (lookup []))) o) p.chares t.bests.items
+    → m.chares ≡ p.chares → ((c : ℕ) → c < p.chares → best_among m t.book c (Some (history p limit c (lookup []))) (slice_get t.agenda.bests.items c))
     → IsSize limit t.histories.items t.size → Follows p limit m [] t
-follows_none p limit m t book processors ends mails histories bests size = record {
+follows_none p limit m t book agenda ends mails histories same bests size = record {
   started = none_yet;
   book = book;
-  processors = processors;
+  processors = agenda.ends;
   ends = λ q l. ends q;
   chares = mails.count;
   mails = λ c l. ap mail_in (mails.each c l);
   histories = numbered (λ c. history p limit c (mail_to [] c)) p.chares 0 t.histories.items histories.count (λ c l. histories.each c l ∙ ap (λ d. Some (history p limit d (lookup []))) (omega arith));
   size = size;
   bests = record {
-    count = bests.count ∙ sym histories.count;
+    count = agenda.bests ∙ (same ∙ sym histories.count);
     each = λ c l.
         let k = histories.count in
         let lt : c < p.chares = omega (arith, l, k) in
-        subst (λ h. best_among m t.book c h (slice_get t.bests.items c)) (sym (histories.each c lt)) (bests.each c lt);
+        subst (λ h. best_among m t.book c h (slice_get t.agenda.bests.items c)) (sym (histories.each c lt)) (bests c lt);
   };
+  agenda = agenda;
 }

@@ -17,7 +17,7 @@ use Rattle.bs_semantics.specs.Rounds.{chares, mail_to}
 use Rattle.bs_semantics.specs.Serial.{Started, messages, find, ready, free, would_start, Earlier, IsEnabled, IsNext}
 use Rattle.bs_semantics.proofs.Rising.{run_rising}
 use Rattle.bs_model.specs.declared.candidates.Best.{Best}
-use Rattle.bs_model.specs.declared.candidates.Next.{Next}
+use Rattle.bs_model.specs.declared.agenda.Next.{Next}
 use Rattle.bs_model.specs.declared.state.State.{State}
 use Rattle.bs_model.specs.Book.{at_key, found}
 use Rattle.bs_times.specs.Machine.{machine_of}
@@ -47,7 +47,7 @@ module _ (p : Program) (limit : ℕ) (m : Fitted) (bs : List Started) (s : State
   pub history_here : (c : ℕ) → c < p.chares → slice_get s.histories.items c ≡ Some (history_of c)
   history_here c l = ap (λ hs. slice_get hs c) f.histories ∙ at_number history_of p.chares 0 c l ∙ ap (λ d. Some (history_of d)) (omega arith)
 
-  pub chares_here : length s.bests.items ≡ p.chares
+  pub chares_here : length s.agenda.bests.items ≡ p.chares
   chares_here = f.bests.count ∙ (ap (λ hs. length hs) f.histories ∙ count_numbers history_of p.chares 0)
 
   abbrev pub test : ℕ → Block → Option ℕ
@@ -61,18 +61,18 @@ module _ (p : Program) (limit : ℕ) (m : Fitted) (bs : List Started) (s : State
   -- the best block of a chare that has an enabled block
   pub record BestFor (d : ℕ) (y : Block) : Type 0 where
     pub best : Best
-    pub is : slice_get s.bests.items d ≡ Some (Some best)
+    pub is : slice_get s.agenda.bests.items d ≡ Some (Some best)
     pub at : IsBestAt (test d) (history_of d).blocks best
     pub first : (best.ready < ready (machine_of m) bs d y) ⊎ ((best.ready ≡ ready (machine_of m) bs d y) × ((at.block ≡ y) ⊎ (slice_cmp nat_cmp at.block.path.0 y.path.0 ≡ Less)))
 
   pub best_for : (d : ℕ) (y : Block) → IsEnabled p limit bs d y → BestFor d y
-  best_for d y e = by_case (best_cases d (history_of d) (slice_get s.bests.items d) here)
+  best_for d y e = by_case (best_cases d (history_of d) (slice_get s.agenda.bests.items d) here)
     where
       lt : d < p.chares
       lt = let l = below_of 0 p.chares d e.chare in omega (arith, l)
 
-      here : best_among m s.book d (Some (history_of d)) (slice_get s.bests.items d)
-      here = subst (λ h. best_among m s.book d h (slice_get s.bests.items d)) (history_here d lt) (f.bests.each d (slice_get_within s.histories.items d (history_of d) (history_here d lt)))
+      here : best_among m s.book d (Some (history_of d)) (slice_get s.agenda.bests.items d)
+      here = subst (λ h. best_among m s.book d h (slice_get s.agenda.bests.items d)) (history_here d lt) (f.bests.each d (slice_get_within s.histories.items d (history_of d) (history_here d lt)))
 
       place : (i : ℕ) × (slice_get (history_of d).blocks i ≡ Some y)
       place = place_of (history_of d).blocks y e.block
@@ -93,7 +93,7 @@ module _ (p : Program) (limit : ℕ) (m : Fitted) (bs : List Started) (s : State
       first_of b h (inl l) = inl l
       first_of b h (inr l) = inr (l.0, by_place b h (cases_lt b.at place.0) l.1)
 
-      by_case : ((slice_get s.bests.items d ≡ Some None) × IsBest (test d) (history_of d).blocks None) ⊎ ((b : Best) × (slice_get s.bests.items d ≡ Some (Some b)) × IsBestAt (test d) (history_of d).blocks b) → BestFor d y
+      by_case : ((slice_get s.agenda.bests.items d ≡ Some None) × IsBest (test d) (history_of d).blocks None) ⊎ ((b : Best) × (slice_get s.agenda.bests.items d ≡ Some (Some b)) × IsBestAt (test d) (history_of d).blocks b) → BestFor d y
       by_case (inl h) = let none = h.1 place.0 y place.1 in let some = told in absurd (cc)
       by_case (inr h) = record { best = h.0; is = h.1; at = h.2; first = first_of h.0 h.2 (h.2.least place.0 y (ready (machine_of m) bs d y) place.1 told) }
 
@@ -104,17 +104,17 @@ module _ (p : Program) (limit : ℕ) (m : Fitted) (bs : List Started) (s : State
       by_case (inl l) = omega (arith, l)
       by_case (inr l) = let e = l.0 in omega (arith, e)
 
-  module _ (n : Next) (least : IsLeastAt m s.ends.items s.bests.items n) (same : m.chares ≡ p.chares) where
+  module _ (n : Next) (least : IsLeastAt m s.agenda.ends.items s.agenda.bests.items n) (same : m.chares ≡ p.chares) where
     pub chare_low : n.chare < p.chares
-    chare_low = let l = slice_get_within s.bests.items n.chare (Some n.best) least.is in let k = chares_here in omega (arith, l, k)
+    chare_low = let l = slice_get_within s.agenda.bests.items n.chare (Some n.best) least.is in let k = chares_here in omega (arith, l, k)
 
-    by_cases : ((slice_get s.bests.items n.chare ≡ Some None) × IsBest (test n.chare) (history_of n.chare).blocks None) ⊎ ((e : Best) × (slice_get s.bests.items n.chare ≡ Some (Some e)) × IsBestAt (test n.chare) (history_of n.chare).blocks e) → IsBestAt (test n.chare) (history_of n.chare).blocks n.best
+    by_cases : ((slice_get s.agenda.bests.items n.chare ≡ Some None) × IsBest (test n.chare) (history_of n.chare).blocks None) ⊎ ((e : Best) × (slice_get s.agenda.bests.items n.chare ≡ Some (Some e)) × IsBestAt (test n.chare) (history_of n.chare).blocks e) → IsBestAt (test n.chare) (history_of n.chare).blocks n.best
     by_cases (inl h) = let one = h.0 in let two = least.is in absurd (cc)
     by_cases (inr h) = let one = h.1 in let two = least.is in let e : h.0 ≡ n.best = cc in subst (IsBestAt (test n.chare) (history_of n.chare).blocks) e h.2
 
     pub its_best : IsBestAt (test n.chare) (history_of n.chare).blocks n.best
-    its_best = by_cases (best_cases n.chare (history_of n.chare) (slice_get s.bests.items n.chare)
-        (subst (λ h. best_among m s.book n.chare h (slice_get s.bests.items n.chare)) (history_here n.chare chare_low) (f.bests.each n.chare (slice_get_within s.histories.items n.chare (history_of n.chare) (history_here n.chare chare_low)))))
+    its_best = by_cases (best_cases n.chare (history_of n.chare) (slice_get s.agenda.bests.items n.chare)
+        (subst (λ h. best_among m s.book n.chare h (slice_get s.agenda.bests.items n.chare)) (history_here n.chare chare_low) (f.bests.each n.chare (slice_get_within s.histories.items n.chare (history_of n.chare) (history_here n.chare chare_low)))))
 
     abbrev pub started : Started
     started = record { chare = n.chare; block = its_best.block; start = n.start }
@@ -122,13 +122,13 @@ module _ (p : Program) (limit : ℕ) (m : Fitted) (bs : List Started) (s : State
     pub starts : CanStart m s.book bs tied n.chare its_best.block n.best.ready
     starts = can_start m s.book bs tied n.chare its_best.block n.best.ready its_best.ready
 
-    home_low : (c : ℕ) → c < p.chares → home_of m c < length s.ends.items
+    home_low : (c : ℕ) → c < p.chares → home_of m c < length s.agenda.ends.items
     home_low c l = let h = (has_bounds m).home c (omega (arith, l, same)) in let k = f.processors in omega (arith, h, k)
 
-    free_is : (c : ℕ) → c < p.chares → get_or s.ends.items (home_of m c) 0 ≡ free (machine_of m) bs (home_of m c)
+    free_is : (c : ℕ) → c < p.chares → get_or s.agenda.ends.items (home_of m c) 0 ≡ free (machine_of m) bs (home_of m c)
     free_is c l = f.ends (home_of m c) (let h = (has_bounds m).home c (omega (arith, l, same)) in h)
 
-    pub start_is : n.start ≡ max n.best.ready (get_or s.ends.items (home_of m n.chare) 0)
+    pub start_is : n.start ≡ max n.best.ready (get_or s.agenda.ends.items (home_of m n.chare) 0)
     start_is = ap (λ (k : Next). k.start) least.next
 
     pub home_is : n.processor ≡ home_of m n.chare
@@ -149,7 +149,7 @@ module _ (p : Program) (limit : ℕ) (m : Fitted) (bs : List Started) (s : State
     -- two bests of one chare
     one_block : (d : ℕ) (y : Block) (b : BestFor d y) → n.chare ≡ d → its_best.block ≡ b.at.block
     one_block d y b e =
-        let mine : slice_get s.bests.items d ≡ Some (Some n.best) = subst (λ c. slice_get s.bests.items c ≡ Some (Some n.best)) e least.is in
+        let mine : slice_get s.agenda.bests.items d ≡ Some (Some n.best) = subst (λ c. slice_get s.agenda.bests.items c ≡ Some (Some n.best)) e least.is in
         let its = b.is in
         let best : b.best ≡ n.best = cc in
         let two : slice_get (history_of d).blocks n.best.at ≡ Some its_best.block = subst (λ c. slice_get (history_of c).blocks n.best.at ≡ Some its_best.block) e its_best.is in
@@ -158,7 +158,7 @@ module _ (p : Program) (limit : ℕ) (m : Fitted) (bs : List Started) (s : State
 
     module _ (d : ℕ) (y : Block) (b : BestFor d y) where
       abbrev other : Next
-      other = next_of m s.ends.items d b.best
+      other = next_of m s.agenda.ends.items d b.best
 
       by_block : n.chare ≡ d → ready (machine_of m) bs n.chare its_best.block ≡ ready (machine_of m) bs d y → (b.at.block ≡ y) ⊎ (slice_cmp nat_cmp b.at.block.path.0 y.path.0 ≡ Less)
           → ((n.chare ≡ d) × (its_best.block ≡ y)) ⊎ Earlier (machine_of m) bs n.chare its_best.block d y
@@ -189,7 +189,7 @@ module _ (p : Program) (limit : ℕ) (m : Fitted) (bs : List Started) (s : State
           let e = start_is in
           let t = starts.tick_is in
           let low = ready_low d y b in
-          let last : get_or s.ends.items (home_of m d) 0 ≡ get_or s.ends.items (home_of m n.chare) 0 = ap (λ q. get_or s.ends.items q 0) h in
+          let last : get_or s.agenda.ends.items (home_of m d) 0 ≡ get_or s.agenda.ends.items (home_of m n.chare) 0 = ap (λ q. get_or s.agenda.ends.items q 0) h in
           inr (inl (omega (arith, l, e, t, low, last)))
       by_start h (inr l) = by_home h l.1
 

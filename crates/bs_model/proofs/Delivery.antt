@@ -1,9 +1,10 @@
 -- Messages that are put into mails, the last one first.
-use Rattle.std.proofs.Common.{◌≡◌, ◌≤◌, ◌<◌, ◌⊎◌, inl, inr, ℕ, ◌==◌, Bool, true, false, if◌then◌else◌, List, [], ◌∷◌, ◌++◌, Option, Some, None, length, slice_get, slice_set, get_or, map, refl, sym, ap, ap₂, subst, ◌∙◌, arith, eqb-true}
+use Rattle.std.proofs.Common.{◌≡◌, ◌≤◌, ◌<◌, ◌⊎◌, inl, inr, ℕ, ◌==◌, Bool, true, false, if◌then◌else◌, List, [], ◌∷◌, ◌++◌, Option, Some, None, length, slice_set, get_or, map, refl, sym, ap, ap₂, subst, ◌∙◌, arith, eqb-true}
 use Rattle.std.proofs.lemmas.Bool.{eqb-false}
 use Rattle.std.proofs.lemmas.List.{length-set}
 use Rattle.std.proofs.lemmas.Option.{slice_get-get_or}
-use Rattle.std.specs.Ordering.{is_eq}
+use Rattle.std.specs.BTreeSet.{insert_key}
+use Rattle.std.specs.Ordering.{is_eq, nat_cmp}
 use Rattle.std.specs.declared.cmp.Ordering.TheVariants.{Less}
 use Rattle.std.specs.List.{AllByRecursion}
 use Rattle.std.specs.List.Sorted.{IsStrictlySortedBy}
@@ -18,6 +19,7 @@ use Rattle.bs_semantics.specs.Rounds.{mail_to}
 use Rattle.bs_semantics.proofs.Mails.{found, hits, is_for_is}
 use Rattle.bs_semantics.proofs.Members.{mem_left, mem_right, mem_cases}
 use Rattle.bs_model.specs.Mails.{mail_in, mail_at, mail_after, AreDelivered, AreKept, CanDeliver, CanPut, IsShallow}
+use Rattle.bs_model.proofs.But.{but_none, but_one}
 use Rattle.bs_model.proofs.Places.{get_set_same, get_set_other, mem_at}
 
 abbrev put_one : ℕ → Lookup → Message → Lookup
@@ -28,17 +30,16 @@ after_push c mail [] m = refl
 after_push c mail (x ∷ ms) m = ap (λ (l : Lookup). if x.sent.to == c then with_message x l else l) (after_push c mail ms m)
 
 -- the messages so far, from the last one on, were put into the mails
-pub record Delivering (limit : ℕ) (old : List (List Message)) (all : List Message) (now : List (List Message)) (heard : List Bool) (rest : List Message) : Type 0 where
+pub record Delivering (limit : ℕ) (old : List (List Message)) (all : List Message) (now : List (List Message)) (heard : List ℕ) (rest : List Message) : Type 0 where
   pub count : length now ≡ length old
-  pub heard_count : length heard ≡ length old
   pub mails : (c : ℕ) → c < length old → mail_after c (mail_at now c) rest ≡ mail_after c (mail_at old c) all
-  pub kept : (c : ℕ) → slice_get heard c ≡ Some false → mail_at now c ≡ mail_at old c
+  pub kept : AreKept old heard now
   pub target : AreFor (length old) rest
   pub left : CanDeliver limit old all → CanDeliver limit now rest
   pub given : CanDeliver limit now rest → CanDeliver limit old all
 
-pub delivers_none : (limit : ℕ) (old : List (List Message)) (all : List Message) (heard : List Bool) → length heard ≡ length old → AreFor (length old) all → Delivering limit old all old heard all
-delivers_none limit old all heard e target = record { count = refl; heard_count = e; mails = λ c l. refl; kept = λ c e. refl; target = target; left = λ h. h; given = λ h. h }
+pub delivers_none : (limit : ℕ) (old : List (List Message)) (all : List Message) → AreFor (length old) all → Delivering limit old all old [] all
+delivers_none limit old all target = record { count = refl; mails = λ c l. refl; kept = but_none (length old) _ (λ c l. refl); target = target; left = λ h. h; given = λ h. h }
 
 pub none_if : {A : Type 0} (o : Option A) → ((x : A) → o ≡ Some x → ⊥) → o ≡ None
 none_if None f = refl
@@ -47,7 +48,7 @@ none_if (Some x) f = absurd (f x refl)
 not_none : {A : Type 0} (o : Option A) (x : A) → o ≡ None → o ≡ Some x → ⊥
 not_none o x e f = cc
 
-module _ (limit : ℕ) (old : List (List Message)) (all : List Message) (mails : List (List Message)) (heard : List Bool) (rest : List Message) (m : Message) (d : Delivering limit old all mails heard (rest ++ m ∷ [])) where
+module _ (limit : ℕ) (old : List (List Message)) (all : List Message) (mails : List (List Message)) (heard : List ℕ) (rest : List Message) (m : Message) (d : Delivering limit old all mails heard (rest ++ m ∷ [])) where
   pub is_last : Mem m (rest ++ m ∷ [])
   is_last = mem_right m rest (m ∷ []) (inl refl)
 
@@ -74,13 +75,6 @@ module _ (limit : ℕ) (old : List (List Message)) (all : List Message) (mails :
 
     at : (c : ℕ) → mail_at after c ≡ put_one c (mail_at mails c) m
     at c = at_if c (m.sent.to == c) refl
-
-    kept_if : (c : ℕ) (t : Bool) → (m.sent.to == c) ≡ t → slice_get (slice_set heard m.sent.to true) c ≡ Some false → mail_at after c ≡ mail_at old c
-    kept_if c true e s =
-        let there : slice_get (slice_set heard m.sent.to true) m.sent.to ≡ Some true = get_set_same heard m.sent.to true (let h = d.heard_count in let k = d.count in let l = in_range in omega (arith, h, k, l)) in
-        let here : slice_get (slice_set heard m.sent.to true) m.sent.to ≡ Some false = subst (λ c. slice_get (slice_set heard m.sent.to true) c ≡ Some false) (sym (eqb-true _ _ e)) s in
-        absurd (cc)
-    kept_if c false e s = let n = eqb-false _ _ e in at_other c n ∙ d.kept c (sym (get_set_other heard m.sent.to c true n) ∙ s)
 
     -- what is held of the key of another message, which isn't this one's
     found_key : (y : Message) (t : Bool) → same_key m.sent.key y.sent.key ≡ t → (t ≡ true → ⊥) → (if t then Some m else mail_at mails y.sent.to y.sent.key) ≡ mail_at mails y.sent.to y.sent.key
@@ -130,12 +124,11 @@ module _ (limit : ℕ) (old : List (List Message)) (all : List Message) (mails :
         by_side y (inr (inl e)) = subst (λ (y : Message). CanPut limit y (mail_at mails y.sent.to)) (sym e) can
         by_side y (inr (inr i)) = absurd i
 
-    pub delivers_more : Delivering limit old all after (slice_set heard m.sent.to true) rest
+    pub delivers_more : Delivering limit old all after (insert_key nat_cmp heard m.sent.to) rest
     delivers_more = record {
       count = length-set mails m.sent.to held ∙ d.count;
-      heard_count = length-set heard m.sent.to true ∙ d.heard_count;
       mails = λ c l. ap (λ mail. mail_after c mail rest) (at c) ∙ (sym (after_push c (mail_at mails c) rest m) ∙ d.mails c l);
-      kept = λ c s. kept_if c (m.sent.to == c) refl s;
+      kept = but_one heard (length old) m.sent.to _ _ (d.target m is_last) d.kept (λ c l other same. at_other c other ∙ same);
       target = λ x i. d.target x (mem_left x rest (m ∷ []) i);
       left = λ h. rest_left (d.left h);
       given = λ h. d.given (all_given h);
@@ -144,8 +137,8 @@ module _ (limit : ℕ) (old : List (List Message)) (all : List Message) (mails :
 none_to_put : (limit : ℕ) (mails : List (List Message)) → CanDeliver limit mails []
 none_to_put limit mails = record { apart = tt; each = λ m i. absurd i }
 
-pub delivered : (limit : ℕ) (old : List (List Message)) (all : List Message) (mails : List (List Message)) (heard : List Bool) → Delivering limit old all mails heard [] → AreDelivered old all mails × AreKept old heard mails × CanDeliver limit old all
-delivered limit old all mails heard d = (record { count = d.count; mails = d.mails }, record { count = d.heard_count; kept = d.kept }, d.given (none_to_put limit mails))
+pub delivered : (limit : ℕ) (old : List (List Message)) (all : List Message) (mails : List (List Message)) (heard : List ℕ) → Delivering limit old all mails heard [] → AreDelivered old all mails × AreKept old heard mails × CanDeliver limit old all
+delivered limit old all mails heard d = (record { count = d.count; mails = d.mails }, d.kept, d.given (none_to_put limit mails))
 
 -- ---- a message of a mail is found
 

@@ -1,8 +1,7 @@
 -- Where no block can start, the outcome is that of the serial machine model, and it can be reported.
-use Rattle.std.proofs.Common.{◌≡◌, ◌≤◌, ◌<◌, ◌⊎◌, inl, inr, ℕ, suc, ◌+◌, List, [], ◌∷◌, ◌++◌, None, length, get_or, map, refl, sym, ap, subst, ◌∙◌, arith, Ordering, Less, Equal, Greater, Result, Ok, Err, IfOk, IfErr, OnOk}
+use Rattle.std.proofs.Common.{◌≡◌, ◌≤◌, ◌<◌, ◌⊎◌, inl, inr, ℕ, suc, List, [], ◌∷◌, None, length, get_or, map, refl, sym, ap, subst, ◌∙◌, arith, Ordering, Less, Equal, Greater, Result, Ok, Err, IfOk, IfErr, OnOk}
 use Rattle.std.proofs.lemmas.List.{length-map}
 use Rattle.bs_tree.specs.declared.tree.Program.{Program}
-use Rattle.bs_log.specs.declared.history.History.{History}
 use Rattle.bs_log.specs.declared.outcome.OutRow.{OutRow}
 use Rattle.bs_log.specs.declared.outcome.Outcome.{Outcome}
 use Rattle.bs_log.specs.Lists.{Mem}
@@ -55,7 +54,7 @@ gives_first : (p : Program) (limit : ℕ) (m : Machine) (r : Simulated) (bs : Li
 gives_first p limit m r _ begins g = g
 gives_first p limit m r _ (goes_on bs b h clean next) g = gives_first p limit m r bs h (starts bs b r clean next g)
 
-pub none_enabled : (p : Program) (limit : ℕ) (m : Fitted) (bs : List Started) (s : State) → Follows p limit m bs s → IsLeast m s.ends.items s.bests.items None → NoneEnabled p limit bs
+pub none_enabled : (p : Program) (limit : ℕ) (m : Fitted) (bs : List Started) (s : State) → Follows p limit m bs s → IsLeast m s.agenda.ends.items s.agenda.bests.items None → NoneEnabled p limit bs
 none_enabled p limit m bs s f none c x e = let b = best_for p limit m bs s f c x e in none c b.best b.is
 
 module _ (p : Program) (limit : ℕ) (m : Fitted) (n : ℕ) (clean : CleanAt p limit n) (small : limit ≤ 262144) (bs : List Started) (s : State) (f : Follows p limit m bs s) where
@@ -75,7 +74,7 @@ module _ (p : Program) (limit : ℕ) (m : Fitted) (n : ℕ) (clean : CleanAt p l
     its_outcome : outcome (machine_of m) p limit bs ≡ o
     its_outcome = λ i. record { rows = sym its_rows i; traps = sym its_traps i; waits = sym its_waits i }
 
-    pub is_serial : IsLeast m s.ends.items s.bests.items None → Gives p limit (machine_of m) [] (timed o)
+    pub is_serial : IsLeast m s.agenda.ends.items s.agenda.bests.items None → Gives p limit (machine_of m) [] (timed o)
     is_serial none =
         subst (λ o. Gives p limit (machine_of m) [] (timed o)) its_outcome
         (gives_first p limit (machine_of m) _ bs its_reached (ends bs (reached_clean p limit (machine_of m) n clean bs its_reached) (none_enabled p limit m bs s f none)))

@@ -1,8 +1,10 @@
 -- The state after the next block was started.
-use Rattle.std.proofs.Common.{◌≡◌, ◌≤◌, ◌<◌, ◌⊎◌, inl, inr, ℕ, zero, suc, ◌+◌, ◌*◌, ◌^◌, ◌==◌, Bool, true, false, if◌then◌else◌, List, [], ◌∷◌, Option, Some, None, length, slice_get, slice_set, get_or, map, option_map, refl, sym, ap, subst, ◌∙◌, arith, eqb-true}
-use Rattle.std.proofs.lemmas.Bool.{cases_eq, eqb-false}
+use Rattle.std.proofs.Common.{◌≡◌, ◌≤◌, ◌<◌, inl, inr, ℕ, zero, suc, ◌+◌, ◌*◌, ◌^◌, ◌==◌, Bool, true, false, if◌then◌else◌, List, [], ◌∷◌, Option, Some, None, length, slice_get, slice_set, get_or, map, option_map, refl, sym, ap, subst, ◌∙◌, arith, eqb-true}
+use Rattle.std.proofs.lemmas.Bool.{eqb-false}
 use Rattle.std.proofs.lemmas.List.{length-set, get_or-set_same, get_or-set_other}
 use Rattle.std.proofs.lemmas.Option.{slice_get_within, slice_get-get_or}
+use Rattle.std.specs.BTreeSet.{insert_key}
+use Rattle.std.specs.Ordering.{nat_cmp}
 use Rattle.bs_tree.specs.declared.tree.Program.{Program}
 use Rattle.bs_log.specs.declared.history.Message.{Message}
 use Rattle.bs_log.specs.declared.history.Sent.{Sent}
@@ -21,20 +23,23 @@ use Rattle.bs_semantics.proofs.Find.{found_at}
 use Rattle.bs_semantics.proofs.Proper.{run_proper}
 use Rattle.bs_model.specs.declared.book.Begun.{Begun}
 use Rattle.bs_model.specs.declared.book.Book.{Book}
-use Rattle.bs_model.specs.declared.candidates.Next.{Next}
+use Rattle.bs_model.specs.declared.agenda.Next.{Next}
 use Rattle.bs_model.specs.declared.state.State.{State}
+use Rattle.bs_model.specs.Agenda.{IsAgenda}
 use Rattle.bs_model.specs.Book.{at_key, found, keyed, put_key}
 use Rattle.bs_times.specs.Machine.{machine_of}
+use Rattle.bs_model.specs.But.{HoldsBut}
 use Rattle.bs_model.specs.Mails.{mail_at, history_at, AreDelivered, AreHistories, AreKept, AreShallow, AreShort, CanDeliver, IsSize}
 use Rattle.bs_model.specs.Next.{AreBest, IsLeastAt, best_among, best_at}
 use Rattle.bs_model.specs.Ready.{AreBooked, IsBooked, IsTimeable}
 use Rattle.bs_model.specs.Started.{AreStarted}
 use Rattle.bs_model.specs.State.{Follows, begun_of, entry_of}
 use Rattle.bs_model.specs.Stop.{HasCleanRound}
+use Rattle.bs_model.proofs.But.{but_one}
 use Rattle.bs_model.proofs.Choosing.{tied, history_here, its_best, started, is_next, chare_low, home_is}
 use Rattle.bs_model.proofs.Early.{start_low, started_low}
 use Rattle.bs_model.proofs.Entries.{key_of, entries_more, finds_same}
-use Rattle.bs_model.proofs.Places.{get_set_same, get_set_other, below_of}
+use Rattle.bs_model.proofs.Places.{below_of}
 use Rattle.bs_model.proofs.Running.{are_blocks, differ}
 use Rattle.bs_model.proofs.Staying.{best_stays}
 use Rattle.bs_model.proofs.Stepping.{targets, more_started, mails_now, shallow, histories_are, histories_kept, can_deliver, short}
@@ -74,7 +79,7 @@ module _ (p : Program) (limit : ℕ) (m : Fitted) (small : limit ≤ 262144) (sa
   pub are_booked : (bs : List Started) → AreStarted p limit (machine_of m) bs → length bs ≤ 262145 → (book : Book) → ((c : ℕ) (path : List ℕ) → found book c path ≡ option_map (begun_of m) (find bs c path)) → AreBooked m book
   are_booked bs r few book tie c path g e = by_found bs r few c path g (find bs c path) refl (sym (tie c path) ∙ e)
 
-  module _ (bs : List Started) (s : State) (f : Follows p limit m bs s) (few : length bs ≤ limit) (nx : Next) (least : IsLeastAt m s.ends.items s.bests.items nx) where
+  module _ (bs : List Started) (s : State) (f : Follows p limit m bs s) (few : length bs ≤ limit) (nx : Next) (least : IsLeastAt m s.agenda.ends.items s.agenda.bests.items nx) where
     abbrev pub now : Started
     now = started p limit m bs s f nx least same
 
@@ -107,7 +112,7 @@ module _ (p : Program) (limit : ℕ) (m : Fitted) (small : limit ≤ 262144) (sa
         let start = next_now.start in
         omega (arith, low, start, few, small)
 
-    pub processor_low : nx.processor < length s.ends.items
+    pub processor_low : nx.processor < length s.agenda.ends.items
     processor_low =
         let lt = chare_low p limit m bs s f nx least same in
         let home = home_is p limit m bs s f nx least same in
@@ -128,7 +133,7 @@ module _ (p : Program) (limit : ℕ) (m : Fitted) (small : limit ≤ 262144) (sa
     pub short_now : (mails : List (List Message)) → AreDelivered s.mails.items now.block.sends mails → HasCleanRound p limit → AreShort p limit mails
     short_now mails d h = short p limit m bs f.started now next_now s.mails.items f.chares some_chare f.mails h.0 h.1 mails d
 
-    pub histories_now : (mails : List (List Message)) (heard : List Bool) → AreDelivered s.mails.items now.block.sends mails → AreKept s.mails.items heard mails → (c : ℕ) → slice_get heard c ≡ Some false → slice_get s.histories.items c ≡ history_at p limit mails c
+    pub histories_now : (mails : List (List Message)) (heard : List ℕ) → AreDelivered s.mails.items now.block.sends mails → AreKept s.mails.items heard mails → HoldsBut heard (length s.mails.items) (λ c. slice_get s.histories.items c ≡ history_at p limit mails c)
     histories_now mails heard d kept = histories_kept p limit m bs f.started now next_now s.mails.items f.chares some_chare f.mails mails d s.histories.items heard f.histories kept
 
     module _ (can : CanDeliver limit s.mails.items now.block.sends) where
@@ -148,7 +153,7 @@ module _ (p : Program) (limit : ℕ) (m : Fitted) (small : limit ≤ 262144) (sa
         pub booked_now : AreBooked m book
         booked_now = are_booked (now ∷ bs) started_now (omega (arith, few, small)) book tied_now
 
-        module _ (mails : List (List Message)) (heard : List Bool) (d : AreDelivered s.mails.items now.block.sends mails) (kept : AreKept s.mails.items heard mails) (hs : List History) (are : AreHistories p limit mails hs) where
+        module _ (mails : List (List Message)) (heard : List ℕ) (d : AreDelivered s.mails.items now.block.sends mails) (kept : AreKept s.mails.items heard mails) (hs : List History) (are : AreHistories p limit mails hs) where
           pub mails_are : (c : ℕ) → c < p.chares → mail_at mails c ≡ mail_to (messages (now ∷ bs)) c
           mails_are = mails_now p limit m bs f.started now next_now s.mails.items f.chares some_chare f.mails mails d
 
@@ -158,56 +163,49 @@ module _ (p : Program) (limit : ℕ) (m : Fitted) (small : limit ≤ 262144) (sa
           its_histories : hs ≡ histories_at p limit (now ∷ bs)
           its_histories = histories_are p limit m bs f.started now next_now s.mails.items f.chares some_chare f.mails mails d hs are
 
-          -- a chare that wasn't heard of, and isn't that of the block
-          other_best : (c : ℕ) → slice_get heard c ≡ Some false → (now.chare ≡ c → ⊥) → best_at m book hs s.bests.items c
-          other_best c e other =
-              let within = slice_get_within heard c false e in
-              let count = kept.count in
+          -- a chare that got no message, and isn't that of the block
+          other_best : (c : ℕ) → c < length s.mails.items → mail_at mails c ≡ mail_at s.mails.items c → (now.chare ≡ c → ⊥) → best_at m book hs s.agenda.bests.items c
+          other_best c within e other =
               let chares = f.chares in
-              let lt : c < p.chares = omega (arith, within, count, chares) in
+              let lt : c < p.chares = omega (arith, within, chares) in
               let k = mails_count in
               let fresh = next_now.candidate.enabled.fresh in
-              let mail = kept.kept c e ∙ f.mails c lt in
+              let mail = e ∙ f.mails c lt in
               let here = are.each c (omega (arith, lt, k)) ∙ ap (λ mail. Some (history p limit c mail)) mail in
               let there = history_here p limit m bs s f c lt in
-              let old = subst (λ h. best_among m s.book c h (slice_get s.bests.items c)) there (f.bests.each c (slice_get_within s.histories.items c _ there)) in
-              subst (λ h. best_among m book c h (slice_get s.bests.items c)) (sym here)
-              (best_stays m now bs s.book book (tied p limit m bs s f) tied_now p limit f.started fresh c other (slice_get s.bests.items c) old)
+              let old = subst (λ h. best_among m s.book c h (slice_get s.agenda.bests.items c)) there (f.bests.each c (slice_get_within s.histories.items c _ there)) in
+              subst (λ h. best_among m book c h (slice_get s.agenda.bests.items c)) (sym here)
+              (best_stays m now bs s.book book (tied p limit m bs s f) tied_now p limit f.started fresh c other (slice_get s.agenda.bests.items c) old)
 
-          pub bests_kept : (c : ℕ) → slice_get (slice_set heard now.chare true) c ≡ Some false → best_at m book hs s.bests.items c
-          bests_kept c e = by_case (cases_eq now.chare c)
-            where
-              by_case : (now.chare ≡ c) ⊎ (now.chare ≡ c → ⊥) → best_at m book hs s.bests.items c
-              by_case (inl same_chare) =
-                  let lt = chare_low p limit m bs s f nx least same in
-                  let count = kept.count in
-                  let chares = f.chares in
-                  let there = get_set_same heard now.chare true (omega (arith, lt, count, chares)) in
-                  let here : slice_get (slice_set heard now.chare true) now.chare ≡ Some false = subst (λ c. slice_get (slice_set heard now.chare true) c ≡ Some false) (sym same_chare) e in
-                  absurd (cc)
-              by_case (inr other) = other_best c (sym (get_set_other heard now.chare c true other) ∙ e) other
+          pub bests_kept : HoldsBut (insert_key nat_cmp heard now.chare) (length hs) (best_at m book hs s.agenda.bests.items)
+          bests_kept =
+              let lt = chare_low p limit m bs s f nx least same in
+              let chares = f.chares in
+              subst (λ n. HoldsBut (insert_key nat_cmp heard now.chare) n (best_at m book hs s.agenda.bests.items)) (sym (are.count ∙ d.count))
+              (but_one heard (length s.mails.items) now.chare _ _ (omega (arith, lt, chares)) kept (λ c l other e. other_best c l e other))
 
-          ends_if : (q : ℕ) (t : Bool) → q < processors_of m → (home_of m now.chare == q) ≡ t → get_or (slice_set s.ends.items (home_of m now.chare) (now.start + duration_of m now.block.cost)) q 0 ≡ (if t then now.start + duration_of m now.block.cost else free (machine_of m) bs q)
+          ends_if : (q : ℕ) (t : Bool) → q < processors_of m → (home_of m now.chare == q) ≡ t → get_or (slice_set s.agenda.ends.items (home_of m now.chare) (now.start + duration_of m now.block.cost)) q 0 ≡ (if t then now.start + duration_of m now.block.cost else free (machine_of m) bs q)
           ends_if q true l e =
               let same_home = eqb-true _ _ e in
               let k = f.processors in
-              subst (λ q. get_or (slice_set s.ends.items (home_of m now.chare) (now.start + duration_of m now.block.cost)) q 0 ≡ now.start + duration_of m now.block.cost) same_home
-              (get_or-set_same s.ends.items (home_of m now.chare) (now.start + duration_of m now.block.cost) 0 (omega (arith, l, same_home, k)))
-          ends_if q false l e = get_or-set_other s.ends.items (home_of m now.chare) q (now.start + duration_of m now.block.cost) 0 (λ h. eqb-false _ _ e (sym h)) ∙ f.ends q l
+              subst (λ q. get_or (slice_set s.agenda.ends.items (home_of m now.chare) (now.start + duration_of m now.block.cost)) q 0 ≡ now.start + duration_of m now.block.cost) same_home
+              (get_or-set_same s.agenda.ends.items (home_of m now.chare) (now.start + duration_of m now.block.cost) 0 (omega (arith, l, same_home, k)))
+          ends_if q false l e = get_or-set_other s.agenda.ends.items (home_of m now.chare) q (now.start + duration_of m now.block.cost) 0 (λ h. eqb-false _ _ e (sym h)) ∙ f.ends q l
 
-          ends_now : (q : ℕ) → q < processors_of m → get_or (slice_set s.ends.items (home_of m now.chare) (now.start + duration_of m now.block.cost)) q 0 ≡ free (machine_of m) (now ∷ bs) q
+          ends_now : (q : ℕ) → q < processors_of m → get_or (slice_set s.agenda.ends.items (home_of m now.chare) (now.start + duration_of m now.block.cost)) q 0 ≡ free (machine_of m) (now ∷ bs) q
           unfolding machine_of
           ends_now q l = ends_if q (home_of m now.chare == q) l refl
 
-          pub follows_now : (t : State) → t.book ≡ book → t.ends.items ≡ slice_set s.ends.items (home_of m now.chare) (now.start + duration_of m now.block.cost) → t.mails.items ≡ mails → t.histories.items ≡ hs → IsSize limit hs t.size → AreBest m book hs t.bests.items → Follows p limit m (now ∷ bs) t
-          follows_now t same_book same_ends same_mails same_histories size bests = record {
+          pub follows_now : (t : State) → t.book ≡ book → t.agenda.ends.items ≡ slice_set s.agenda.ends.items (home_of m now.chare) (now.start + duration_of m now.block.cost) → t.mails.items ≡ mails → t.histories.items ≡ hs → IsSize limit hs t.size → AreBest m book hs t.agenda.bests.items → IsAgenda m t.agenda → Follows p limit m (now ∷ bs) t
+          follows_now t same_book same_ends same_mails same_histories size bests agenda = record {
             started = started_now;
             book = ap keyed same_book ∙ entries_now;
-            processors = ap (λ xs. length xs) same_ends ∙ (length-set s.ends.items (home_of m now.chare) (now.start + duration_of m now.block.cost) ∙ f.processors);
+            processors = ap (λ xs. length xs) same_ends ∙ (length-set s.agenda.ends.items (home_of m now.chare) (now.start + duration_of m now.block.cost) ∙ f.processors);
             ends = λ q l. ap (λ xs. get_or xs q 0) same_ends ∙ ends_now q l;
             chares = ap (λ xs. length xs) same_mails ∙ mails_count;
             mails = λ c l. ap (λ xs. mail_at xs c) same_mails ∙ mails_are c l;
             histories = same_histories ∙ its_histories;
             size = subst (λ hs. IsSize limit hs t.size) (sym same_histories) size;
-            bests = subst (λ b. AreBest m b t.histories.items t.bests.items) (sym same_book) (subst (λ hs. AreBest m book hs t.bests.items) (sym same_histories) bests);
+            bests = subst (λ b. AreBest m b t.histories.items t.agenda.bests.items) (sym same_book) (subst (λ hs. AreBest m book hs t.agenda.bests.items) (sym same_histories) bests);
+            agenda = agenda;
           }

@@ -1,5 +1,7 @@
+pub mod Agendas
 pub mod Beginning
 pub mod Books
+pub mod But
 pub mod Choices
 pub mod Choosing
 pub mod Closing
@@ -11,6 +13,8 @@ pub mod Enabled
 pub mod Ending
 pub mod Entries
 pub mod Following
+pub mod Keys
+pub mod Lines
 pub mod Places
 pub mod Pushing
 pub mod Readies

@@ -3,7 +3,7 @@
 use Rattle.std.proofs.Common.{◌≡◌, ◌≤◌, ◌<◌, ◌⊎◌, inl, inr, ℕ, zero, suc, ◌==◌, ◌&&◌, Bool, true, false, if◌then◌else◌, List, [], ◌∷◌, ◌++◌, Some, None, length, slice_get, refl, sym, ap, ap₂, subst, ◌∙◌, arith}
 use Rattle.std.proofs.lemmas.Bool.{cases_lt}
 use Rattle.std.proofs.lemmas.List.Sums.{sum_by-cons}
-use Rattle.std.proofs.lemmas.Option.{slice_get_within, slice_get_past}
+use Rattle.std.proofs.lemmas.Option.{slice_get_past}
 use Rattle.bs_tree.specs.declared.tree.Program.{Program}
 use Rattle.bs_log.specs.declared.history.Key.{Key}
 use Rattle.bs_log.specs.declared.history.Message.{Message}
@@ -33,8 +33,10 @@ use Rattle.bs_semantics.proofs.Chains.{closed_low}
 use Rattle.bs_semantics.proofs.Confluence.{clean_closed}
 use Rattle.bs_semantics.proofs.Reached.{reached_sent, reached_clean}
 use Rattle.bs_times.specs.Machine.{machine_of}
+use Rattle.bs_model.specs.But.{HoldsBut}
 use Rattle.bs_model.specs.Mails.{mail_at, mail_in, mail_after, AreDelivered, AreHistories, AreKept, AreShallow, AreShort, CanDeliver, history_at}
 use Rattle.bs_model.specs.Started.{AreStarted, IsSent, one_more}
+use Rattle.bs_model.proofs.But.{but_less}
 use Rattle.bs_model.proofs.Delivery.{none_if}
 use Rattle.bs_model.proofs.Places.{at_number, numbered}
 use Rattle.bs_model.proofs.Running.{keys_apart, all_low, are_blocks, reached}
@@ -163,15 +165,13 @@ module _ (p : Program) (limit : ℕ) (m : Fitted) where
           let low = all_low p limit (machine_of m) (b ∷ bs) (more_started can) x here.0 in
           omega (arith, low, few)
 
-      pub histories_kept : (hs : List History) (heard : List Bool) → hs ≡ histories_at p limit bs → AreKept mails heard new → (c : ℕ) → slice_get heard c ≡ Some false → slice_get hs c ≡ history_at p limit new c
-      histories_kept hs heard e kept c f =
-          let within = slice_get_within heard c false f in
-          let same = kept.count in
-          let lt : c < p.chares = omega (arith, within, same, count) in
+      pub histories_kept : (hs : List History) (heard : List ℕ) → hs ≡ histories_at p limit bs → AreKept mails heard new → HoldsBut heard (length mails) (λ c. slice_get hs c ≡ history_at p limit new c)
+      histories_kept hs heard e kept = but_less heard (length mails) _ _ kept (λ c l same.
+          let lt : c < p.chares = omega (arith, l, count) in
           ap (λ hs. slice_get hs c) e
           ∙ (at_number (λ c. history p limit c (mail_to (messages bs) c)) p.chares 0 c lt
           ∙ (ap (λ d. Some (history p limit d (mail_to (messages bs) d))) (omega arith)
-          ∙ ap (λ (l : Lookup). Some (history p limit c l)) (sym (kept.kept c f ∙ is c lt))))
+          ∙ ap (λ (l : Lookup). Some (history p limit c l)) (sym (same ∙ is c lt)))))
 
     -- where the verdict is Clean
     module _ (n : ℕ) (clean : CleanAt p limit n) where

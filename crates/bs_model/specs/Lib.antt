@@ -1,5 +1,8 @@
+pub mod Agenda
 pub mod Asking
 pub mod Book
+pub mod But
+pub mod Line
 pub mod Mails
 pub mod Next
 pub mod Ready

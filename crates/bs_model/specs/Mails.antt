@@ -1,5 +1,5 @@
 -- The mails of the chares, and the histories under them.
-use Rattle.std.specs.Prelude.{◌≡◌, ◌≤◌, ◌<◌, ℕ, ◌==◌, Bool, false, if◌then◌else◌, List, [], ◌∷◌, Option, Some, None, length, slice_get}
+use Rattle.std.specs.Prelude.{◌≡◌, ◌≤◌, ◌<◌, ℕ, ◌==◌, if◌then◌else◌, List, [], ◌∷◌, Option, Some, None, length, slice_get}
 use Rattle.bs_tree.specs.declared.tree.Program.{Program}
 use Rattle.bs_log.specs.declared.history.Key.{Key}
 use Rattle.bs_log.specs.declared.history.Message.{Message}
@@ -9,6 +9,7 @@ use Rattle.bs_log.specs.Lists.{Mem, Apart}
 use Rattle.bs_log.specs.Messages.{one_key}
 use Rattle.bs_match.specs.Mail.{lookup, with_message}
 use Rattle.bs_semantics.specs.Run.{Lookup, history}
+use Rattle.bs_model.specs.But.{HoldsBut}
 
 -- what a list of messages holds, if there is one
 abbrev pub mail_in : Option (List Message) → Lookup
@@ -30,9 +31,8 @@ pub record AreDelivered (old : List (List Message)) (ms : List Message) (new : L
   pub mails : (c : ℕ) → c < length old → mail_at new c ≡ mail_after c (mail_at old c) ms
 
 -- who got no message has the mail that it had
-pub record AreKept (old : List (List Message)) (heard : List Bool) (new : List (List Message)) : Type 0 where
-  pub count : length heard ≡ length old
-  pub kept : (c : ℕ) → slice_get heard c ≡ Some false → mail_at new c ≡ mail_at old c
+abbrev pub AreKept : List (List Message) → List ℕ → List (List Message) → Type 0
+AreKept old heard new = HoldsBut heard (length old) (λ c. mail_at new c ≡ mail_at old c)
 
 -- a mail has no message of this one's key, and it is no deeper than the limit
 pub record CanPut (limit : ℕ) (m : Message) (mail : Lookup) : Type 0 where

@@ -1,12 +1,12 @@
 -- The best block of a chare, and the next one of all.
-use Rattle.std.specs.Prelude.{◌≡◌, ◌≤◌, ◌<◌, ◌⊎◌, ℕ, ◌==◌, max, Bool, if◌then◌else◌, nat_lt, nat_le, List, Option, Some, None, slice_get, get_or, length}
+use Rattle.std.specs.Prelude.{◌≡◌, ◌≤◌, ◌<◌, ◌⊎◌, ℕ, max, if◌then◌else◌, nat_le, List, Option, Some, None, slice_get, get_or, length}
 use Rattle.bs_log.specs.declared.history.Block.{Block}
 use Rattle.bs_log.specs.declared.history.History.{History}
 use Rattle.bs_machine.specs.declared.fitted.Fitted.{Fitted}
 use Rattle.bs_machine.specs.Fitted.{home_of}
 use Rattle.bs_model.specs.declared.book.Book.{Book}
 use Rattle.bs_model.specs.declared.candidates.Best.{Best}
-use Rattle.bs_model.specs.declared.candidates.Next.{Next}
+use Rattle.bs_model.specs.declared.agenda.Next.{Next}
 use Rattle.bs_model.specs.Ready.{candidate_in}
 
 -- the earlier one of the best so far and a later block, which is ready at this tick if it can start
@@ -38,14 +38,6 @@ best_at m book hs bests c = best_among m book c (slice_get hs c) (slice_get best
 pub record AreBest (m : Fitted) (book : Book) (hs : List History) (bests : List (Option Best)) : Type 0 where
   pub count : length bests ≡ length hs
   pub each : (c : ℕ) → c < length hs → best_at m book hs bests c
-
--- the order of (start, processor, ready tick)
-abbrev pub is_before_in : Next → Next → Bool
-is_before_in a b = if a.start == b.start then (if a.processor == b.processor then nat_lt a.best.ready b.best.ready else nat_lt a.processor b.processor) else nat_lt a.start b.start
-
-abbrev pub lesser_of : Option Next → Next → Next
-lesser_of None b = b
-lesser_of (Some a) b = if is_before_in b a then b else a
 
 -- the best block of a chare, started after the last end of its processor
 abbrev pub next_of : Fitted → List ℕ → ℕ → Best → Next

@@ -8,6 +8,7 @@ use Rattle.bs_semantics.specs.Rounds.{mail_to}
 use Rattle.bs_semantics.specs.Serial.{Started, messages, histories_at, free, started_cmp}
 use Rattle.bs_model.specs.declared.book.Begun.{Begun}
 use Rattle.bs_model.specs.declared.state.State.{State}
+use Rattle.bs_model.specs.Agenda.{IsAgenda}
 use Rattle.bs_model.specs.Book.{keyed}
 use Rattle.bs_times.specs.Machine.{machine_of}
 use Rattle.bs_model.specs.Mails.{IsSize, mail_at}
@@ -28,10 +29,11 @@ entry_of m b = (b.chare ∷ b.block.path.0, begun_of m b)
 pub record Follows (p : Program) (limit : ℕ) (m : Fitted) (bs : List Started) (s : State) : Type 0 where
   pub started : AreStarted p limit (machine_of m) bs
   pub book : keyed s.book ≡ map (entry_of m) (put_all (started_cmp (machine_of m)) bs [])
-  pub processors : length s.ends.items ≡ processors_of m
-  pub ends : (q : ℕ) → q < processors_of m → get_or s.ends.items q 0 ≡ free (machine_of m) bs q
+  pub processors : length s.agenda.ends.items ≡ processors_of m
+  pub ends : (q : ℕ) → q < processors_of m → get_or s.agenda.ends.items q 0 ≡ free (machine_of m) bs q
   pub chares : length s.mails.items ≡ p.chares
   pub mails : (c : ℕ) → c < p.chares → mail_at s.mails.items c ≡ mail_to (messages bs) c
   pub histories : s.histories.items ≡ histories_at p limit bs
   pub size : IsSize limit s.histories.items s.size
-  pub bests : AreBest m s.book s.histories.items s.bests.items
+  pub bests : AreBest m s.book s.histories.items s.agenda.bests.items
+  pub agenda : IsAgenda m s.agenda

@@ -3,9 +3,11 @@
 //! `docs/model.md` says what it gives.
 #![tactic(auto)]
 
+mod agenda;
 mod asking;
 mod book;
 mod candidates;
+mod line;
 mod mails;
 mod model;
 mod ready;

@@ -1,9 +1,12 @@
 // The mails of the chares, and the histories under them.
-ghost use Rattle.std.specs.Prelude.{◌≡◌, ◌≤◌, ◌<◌, ℕ, false, IfOk, IfErr, OnOk, Some, length, slice_get};
+ghost use Rattle.std.specs.Prelude.{◌≡◌, ◌≤◌, ◌<◌, IfOk, IfErr, OnOk, length, slice_get};
+ghost use Rattle.std.specs.BTreeSet.{insert_key};
+ghost use Rattle.std.specs.Ordering.{nat_cmp};
 ghost use Rattle.bs_log.specs.Size.{size, size_all};
 ghost use Rattle.bs_log.specs.Messages.{AreFor};
 ghost use Rattle.bs_match.specs.Mail.{lookup, with_message};
 ghost use Rattle.bs_semantics.specs.Run.{history as history_of};
+ghost use Rattle.bs_model.specs.But.{HoldsBut};
 ghost use Rattle.bs_model.specs.Mails.{AreDelivered, AreHistories, AreKept, AreShallow, AreShort, CanDeliver, CanPut, IsShallow, IsSize, history_at};
 ghost use Rattle.bs_model.specs.Stop.{Denies};
 
@@ -12,10 +15,10 @@ use bs_check::Accepted;
 use bs_history::{HistoryFault, history};
 use bs_log::{History, Message, size};
 use bs_match::{Mail, PutFault};
-use std::alloc::Global;
+use std::alloc::{AllocError, Global};
+use std::collections::BTreeSet;
 
-/// Puts messages into the mails of the chares that they go to, and tells of each chare whether it got
-/// one.
+/// Puts messages into the mails of the chares that they go to, and gives the chares that got one.
 ///
 /// `Unclean` comes where a chare is sent a key twice, or one that its mail has, or where a message is
 /// deeper than the limit.
@@ -24,21 +27,29 @@ pub(crate) fn deliver(
     limit: u64,
     mails: &mut [Mail],
     messages: Vec<Message>,
-) -> Result<Vec<bool>, Stop>
+) -> Result<BTreeSet<u32>, Stop>
     requires { AreFor (length mails.old) messages.items }
     ensures delivered { OnOk result (AreDelivered mails.old messages.items mails.new) }
-    ensures heard { IfOk result (λ heard. AreKept mails.old heard.items mails.new) }
+    ensures heard { IfOk result (λ heard. AreKept mails.old heard.keys mails.new) }
     ensures given { OnOk result (CanDeliver limit mails.old messages.items) }
     ensures stopped { IfErr result (Denies (CanDeliver limit mails.old messages.items)) }
 {
-    let mut heard = vec![in alloc; false; mails.len()]?;
+    let mut heard = BTreeSet::new(alloc);
     let mut rest = messages;
     while let Some(message) = rest.pop() {
-        let to = message.sent.to as usize;
-        heard[to] = true;
-        put(limit, &mut mails[to], message)?;
+        let to = message.sent.to;
+        list(&mut heard, to)?;
+        put(limit, &mut mails[to as usize], message)?;
     }
     Ok(heard)
+}
+
+/// Lists a chare, if it isn't listed.
+pub(crate) fn list(listed: &mut BTreeSet<u32>, chare: u32) -> Result<(), AllocError>
+    ensures { OnOk result (listed.new.keys ≡ insert_key nat_cmp listed.old.keys chare) }
+{
+    let _is_new = listed.insert(chare)?;
+    Ok(())
 }
 
 // Puts a message into a mail.
@@ -65,28 +76,27 @@ pub(crate) fn renew(
     alloc: Global,
     accepted: &Accepted,
     mails: &[Mail],
-    heard: &[bool],
+    heard: &BTreeSet<u32>,
     limit: u64,
     histories: &mut [History],
     size_before: u64,
 ) -> Result<u64, Stop>
     requires chares { length mails.now ≡ accepted.now.program.chares }
-    requires lengths { (length heard.now ≡ length mails.now) × (length histories.old ≡ length mails.now) }
+    requires lengths { length histories.old ≡ length mails.now }
     requires limit { limit ≤ 262144 }
     requires shallow { AreShallow mails.now }
-    requires kept { (c : ℕ) → slice_get heard.now c ≡ Some false → slice_get histories.old c ≡ history_at accepted.now.program limit mails.now c }
+    requires kept { HoldsBut heard.now.keys (length mails.now) (λ c. slice_get histories.old c ≡ history_at accepted.now.program limit mails.now c) }
     requires size { IsSize limit histories.old size_before }
     ensures taken { OnOk result (AreHistories accepted.now.program limit mails.now histories.new) }
     ensures size { IfOk result (IsSize limit histories.new) }
     ensures stopped { IfErr result (Denies (AreShort accepted.now.program limit mails.now)) }
 {
     let mut together = size_before;
-    for chare in 0..histories.len() {
-        if heard[chare] {
-            let taken = take(alloc, accepted, chare as u32, &mails[chare], limit)?;
-            together = together - size(&histories[chare]) + size(&taken);
-            histories[chare] = taken;
-        }
+    for chare in heard {
+        let place = *chare as usize;
+        let taken = take(alloc, accepted, *chare, &mails[place], limit)?;
+        together = together - size(&histories[place]) + size(&taken);
+        histories[place] = taken;
     }
     if together > limit {
         return Err(Stop::Unclean);

@@ -49,7 +49,7 @@ fn run(alloc: Global, accepted: &Accepted, machine: &Fitted, limit: u64) -> Resu
 {
     let mut state = State::begin(alloc, accepted, machine, limit)?;
     for _turn in 0..limit + 1 {
-        match state.next(machine) {
+        match state.next() {
             Some(next) => state = state.start(alloc, accepted, machine, limit, next)?,
             None => return state.outcome(alloc),
         }

@@ -1,6 +1,8 @@
 // The state of the machine, and its steps.
 ghost use Rattle.std.specs.Prelude.{◌≡◌, ◌≤◌, ◌<◌, ◌^◌, List, [], ◌∷◌, ◌++◌, IfOk, IfErr, OnOk, Some, length, map, slice_get};
-ghost use Rattle.bs_machine.specs.Fitted.{home_of, processors_of};
+ghost use Rattle.bs_machine.specs.Fitted.{home_of};
+ghost use Rattle.bs_machine.specs.declared.fitted.Fitted.{Fitted as Machine};
+ghost use Rattle.bs_model.specs.Agenda.{IsAgenda};
 ghost use Rattle.bs_semantics.specs.Serial.{Started};
 ghost use Rattle.bs_model.specs.Book.{keyed};
 ghost use Rattle.bs_model.specs.Next.{IsLeast};
@@ -9,10 +11,11 @@ ghost use Rattle.bs_model.specs.Asking.{AskOnce};
 ghost use Rattle.bs_model.specs.State.{Follows, begun_of};
 ghost use Rattle.bs_model.specs.Stop.{Denies, HasCleanRound};
 
+use crate::agenda::{Agenda, Next};
 use crate::asking::ask_once;
 use crate::book::{Begun, Book};
-use crate::candidates::{Best, Next, best_block, choose, next_block};
-use crate::mails::{deliver, renew, take};
+use crate::candidates::{best_block, choose};
+use crate::mails::{deliver, list, renew, take};
 use crate::stop::Stop;
 use bs_check::Accepted;
 use bs_log::{
@@ -24,22 +27,23 @@ use bs_match::Mail;
 use bs_tree::List;
 use std::alloc::{AllocError, Global};
 
-/// What was started, and what that leads to: the last end of each processor, and of each chare its
-/// mail, its history under that mail, and the block of it that starts before its others. The size is that
-/// of all histories together.
+/// What was started, and what that leads to: the last end of each processor and the best block of each
+/// chare, and of each chare its mail, and its history under that mail. The size is that of all histories
+/// together.
 #[derive(Drop)]
 pub(crate) struct State {
     book: Book,
-    ends: Vec<u128>,
+    agenda: Agenda,
     mails: Vec<Mail>,
     histories: Vec<History>,
     size: u64,
-    bests: Vec<Option<Best>>,
 }
 
 impl State {
     ghost use Rattle.std.specs.Prelude.{◌≡◌, ◌≤◌, ◌<◌, ◌^◌, List, [], ◌∷◌, IfOk, IfErr, OnOk, Some, length, map, slice_get};
-    ghost use Rattle.bs_machine.specs.Fitted.{home_of, processors_of};
+    ghost use Rattle.bs_machine.specs.Fitted.{home_of};
+    ghost use Rattle.bs_machine.specs.declared.fitted.Fitted.{Fitted as Machine};
+    ghost use Rattle.bs_model.specs.Agenda.{IsAgenda};
     ghost use Rattle.bs_semantics.specs.Serial.{Started};
     ghost use Rattle.bs_model.specs.Book.{keyed};
     ghost use Rattle.bs_model.specs.Next.{IsLeast};
@@ -67,37 +71,34 @@ impl State {
         let mut mails = Vec::new(alloc);
         let mut histories = Vec::new(alloc);
         let mut size = 0;
-        let mut bests = Vec::new(alloc);
+        let mut agenda = Agenda::new(alloc, machine, chares)?;
         for chare in 0..chares {
             let mail = Mail::new(alloc);
             let history = take(alloc, accepted, chare, &mail, limit)?;
             let best = best_block(alloc, machine, &book, chare, history.blocks.as_slice())?;
             size += size_of(&history);
-            push(&mut bests, best)?;
+            agenda.best_at(machine, chare, best)?;
             push(&mut histories, history)?;
             push(&mut mails, mail)?;
         }
         if size > limit {
             return Err(Stop::Unclean);
         }
-        let ends = vec![in alloc; 0; machine.processors() as usize]?;
         Ok(State {
             book,
-            ends,
+            agenda,
             mails,
             histories,
             size,
-            bests,
         })
     }
 
     /// The block that starts next, if one can.
-    pub(crate) fn next(&self, machine: &Fitted) -> Option<Next>
-        requires chares { length self.now.bests.items ≡ machine.now.chares }
-        requires ends { length self.now.ends.items ≡ processors_of machine.now }
-        ensures { IsLeast machine.now self.now.ends.items self.now.bests.items result }
+    pub(crate) fn next(&self) -> Option<Next>
+        requires { (m : Machine) × IsAgenda m self.now.agenda }
+        ensures { (m : Machine) → IsAgenda m self.now.agenda → IsLeast m self.now.agenda.ends.items self.now.agenda.bests.items result }
     {
-        next_block(machine, &self.bests, &self.ends)
+        self.agenda.next()
     }
 
     /// Starts a block, and sends its messages. Before it no more blocks were started than the limit.
@@ -114,22 +115,21 @@ impl State {
         requires chares { machine.now.chares ≡ accepted.now.program.chares }
         requires limit { (1 ≤ limit) × (limit ≤ 262144) }
         requires follows { (bs : List Started) × Follows accepted.now.program limit machine.now bs self × (length bs ≤ limit) }
-        requires least { IsLeast machine.now self.ends.items self.bests.items (Some next) }
+        requires least { IsLeast machine.now self.agenda.ends.items self.agenda.bests.items (Some next) }
         ensures follows { IfOk result (λ s. (bs : List Started) → Follows accepted.now.program limit machine.now bs self → length bs ≤ limit → (b : Started) × Follows accepted.now.program limit machine.now (b ∷ bs) s) }
         ensures stopped { IfErr result (Denies (HasCleanRound accepted.now.program limit)) }
     {
         let State {
             mut book,
-            mut ends,
+            mut agenda,
             mut mails,
             mut histories,
             size,
-            mut bests,
         } = self;
         let block = block_at(&histories[next.chare as usize], next.best.at);
         let begun = begin(alloc, machine, block, &next)?;
         let messages = copy_mails(alloc, block.sends.as_slice())?;
-        ends[next.processor as usize] = begun.row.end;
+        agenda.end_at(next.processor, begun.row.end)?;
         book.put(alloc, &block.path, begun)?;
         let mut changed = deliver(alloc, limit, &mut mails, messages)?;
         let size = renew(
@@ -141,15 +141,14 @@ impl State {
             &mut histories,
             size,
         )?;
-        changed[next.chare as usize] = true;
-        choose(alloc, machine, &book, &histories, &changed, &mut bests)?;
+        list(&mut changed, next.chare)?;
+        choose(alloc, machine, &book, &histories, &changed, &mut agenda)?;
         Ok(State {
             book,
-            ends,
+            agenda,
             mails,
             histories,
             size,
-            bests,
         })
     }
 

@@ -1,7 +1,12 @@
-use Rattle.std.proofs.Common.{length, slice_get}
-use Rattle.bs_model.specs.Next.{best_among}
-use Rattle.bs_model.proofs.Renewal.{Renewing}
+use Rattle.std.proofs.Common.{◌≡◌, length}
+use Rattle.bs_model.specs.Agenda.{IsAgenda}
+use Rattle.bs_model.specs.But.{HoldsBut}
+use Rattle.bs_model.specs.Next.{best_at}
 use Rattle.bs_model.proofs.candidates.choose.Given as goal
 
 abbrev pub invariant-loop-chare : goal.invariant-loop-chare
-invariant-loop-chare l = Renewing (λ c. slice_get l.fn.bests c) (λ c b. best_among l.machine l.book c (slice_get l.histories c) b) (length l.histories) l.chare l.bests
+invariant-loop-chare l = record {
+  bests : HoldsBut l.chare-iterator (length l.histories) (best_at l.machine l.book l.histories l.agenda.bests.items);
+  ends : l.agenda.ends.items ≡ l.fn.agenda.ends.items;
+  agenda : IsAgenda l.machine l.agenda;
+}

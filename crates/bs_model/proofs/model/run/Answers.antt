@@ -1,4 +1,4 @@
-use Rattle.std.proofs.Common.{◌≡◌, ◌≤◌, [], ◌∷◌, map, length, refl, sym, subst, ◌∙◌, arith}
+use Rattle.std.proofs.Common.{◌≡◌, ◌≤◌, [], ◌∷◌, map, length, refl, subst, arith}
 use Rattle.bs_log.specs.Collected.{traps_from, waits_from}
 use Rattle.bs_log.specs.Reportable.{IsReportable}
 use Rattle.bs_log.specs.declared.outcome.Outcome.{Outcome}
@@ -26,10 +26,8 @@ loop-turn-preserved c =
     let b = c.in_ok-state-in-Some.ensures.follows inv.0 inv.1 few in
     (b.0 ∷ inv.0, b.1, omega (arith, count))
 
-pub next-requires-clause-chares : goal.next-requires-clause-chares
-next-requires-clause-chares c =
-    let inv = c.loop-turn.invariant in
-    chares_here c.args.accepted.now.program c.args.limit c.args.machine.now inv.0 c.loop-turn.state inv.1 ∙ sym c.requires.chares
+pub next-requires : goal.next-requires
+next-requires c = (c.args.machine.now, c.loop-turn.invariant.1.agenda)
 
 pub outcome-requires : goal.outcome-requires
 outcome-requires c =
@@ -45,7 +43,7 @@ returns-in-None-clause-serial c =
     let m = c.args.machine.now in
     let s = c.loop-turn.state in
     let inv = c.loop-turn.invariant in
-    let none = subst (IsLeast m s.ends.items s.bests.items) c.in-None.is c.next.ensures in
+    let none = subst (IsLeast m s.agenda.ends.items s.agenda.bests.items) c.in-None.is (c.next.ensures m inv.1.agenda) in
     let clean = has_clean_round p limit m inv.0 s inv.1 (none_enabled p limit m inv.0 s inv.1 none) in
     if_given (λ (o : Outcome). o.rows ≡ map (λ e. e.1.row) (keyed s.book)) (λ (o : Outcome). o.traps ≡ traps_from 0 s.histories.items) (λ (o : Outcome). o.waits ≡ waits_from 0 s.histories.items)
     (λ (o : Outcome). IsSerial p limit (machine_of m) (timed o)) (AskOnce s.histories.items) (λ o rows traps waits are. is_serial p limit m (clean are).0 (clean are).1 c.requires.limit.1 inv.0 s inv.1 o rows traps waits none)
@@ -58,7 +56,7 @@ returns-in-None-clause-reportable c =
     let m = c.args.machine.now in
     let s = c.loop-turn.state in
     let inv = c.loop-turn.invariant in
-    let none = subst (IsLeast m s.ends.items s.bests.items) c.in-None.is c.next.ensures in
+    let none = subst (IsLeast m s.agenda.ends.items s.agenda.bests.items) c.in-None.is (c.next.ensures m inv.1.agenda) in
     let clean = has_clean_round p limit m inv.0 s inv.1 (none_enabled p limit m inv.0 s inv.1 none) in
     if_given (λ (o : Outcome). o.rows ≡ map (λ e. e.1.row) (keyed s.book)) (λ (o : Outcome). o.traps ≡ traps_from 0 s.histories.items) (λ (o : Outcome). o.waits ≡ waits_from 0 s.histories.items)
     IsReportable (AskOnce s.histories.items) (λ o rows traps waits are. is_reportable p limit m (clean are).0 (clean are).1 c.requires.limit.1 inv.0 s inv.1 o rows traps waits)
@@ -71,7 +69,7 @@ returns-in-None-clause-clean c =
     let m = c.args.machine.now in
     let s = c.loop-turn.state in
     let inv = c.loop-turn.invariant in
-    let none = subst (IsLeast m s.ends.items s.bests.items) c.in-None.is c.next.ensures in
+    let none = subst (IsLeast m s.agenda.ends.items s.agenda.bests.items) c.in-None.is (c.next.ensures m inv.1.agenda) in
     on_given (AskOnce s.histories.items) (HasCleanRound p limit) (has_clean_round p limit m inv.0 s inv.1 (none_enabled p limit m inv.0 s inv.1 none)) c.outcome.result c.outcome.ensures.once
 
 pub returns-in-None-clause-stopped : goal.returns-in-None-clause-stopped

@@ -1,4 +1,6 @@
-use Rattle.std.proofs.Common.{◌≡◌, ◌≤◌, ◌+◌, ◌^◌, Bool, List, ◌∷◌, length, slice_get, slice_set, refl, sym, ap, subst, ◌∙◌, arith}
+use Rattle.std.proofs.Common.{◌≡◌, ◌≤◌, ◌+◌, ◌^◌, List, ◌∷◌, length, slice_get, slice_set, refl, sym, ap, subst, ◌∙◌, arith}
+use Rattle.std.specs.BTreeSet.{insert_key}
+use Rattle.std.specs.Ordering.{nat_cmp}
 use Rattle.std.proofs.lemmas.List.{with_items_is}
 use Rattle.std.proofs.lemmas.Result.{err_from_is_err_and}
 use Rattle.bs_log.specs.declared.history.Block.{Block}
@@ -10,10 +12,11 @@ use Rattle.bs_semantics.specs.Run.{history}
 use Rattle.bs_semantics.specs.Rounds.{mail_to}
 use Rattle.bs_semantics.specs.Serial.{messages}
 use Rattle.bs_model.specs.Book.{keyed, put_key}
+use Rattle.bs_model.specs.But.{HoldsBut}
 use Rattle.bs_model.specs.Mails.{AreDelivered, AreHistories, AreKept, AreShallow, AreShort, CanDeliver, history_at}
 use Rattle.bs_model.specs.Next.{AreBest, best_at}
 use Rattle.bs_model.specs.State.{begun_of}
-use Rattle.bs_model.proofs.Choosing.{chare_low, chares_here, home_is}
+use Rattle.bs_model.proofs.Choosing.{home_is}
 use Rattle.bs_model.proofs.Denying.{denies_also}
 use Rattle.bs_model.proofs.Entries.{key_of}
 use Rattle.bs_model.proofs.Places.{count_numbers}
@@ -66,8 +69,8 @@ begin-requires-clause-early c =
     let few = c.requires.follows.2 in
     start_early p limit m small same bs s f few nx least
 
-pub index_mut-requires : goal.index_mut-requires
-index_mut-requires c =
+pub end_at-requires-clause-processor : goal.end_at-requires-clause-processor
+end_at-requires-clause-processor c =
     let p = c.args.accepted.now.program in
     let limit = c.args.limit in
     let m = c.args.machine.now in
@@ -79,7 +82,10 @@ index_mut-requires c =
     let bs = c.requires.follows.0 in
     let f = c.requires.follows.1 in
     let few = c.requires.follows.2 in
-    let low = processor_low p limit m small same bs s f few nx least in omega (arith, low, s.ends.ok.0)
+    processor_low p limit m small same bs s f few nx least
+
+pub end_at-requires-clause-agenda : goal.end_at-requires-clause-agenda
+end_at-requires-clause-agenda c = (c.args.machine.now, c.requires.follows.1.agenda)
 
 pub deliver-requires : goal.deliver-requires
 deliver-requires c =
@@ -143,16 +149,14 @@ renew-requires-clause-lengths c =
     let delivered : AreDelivered s.mails.items (now p limit m small same bs s f few nx least).block.sends c.deliver.new.mails =
     subst (λ old. AreDelivered old (now p limit m small same bs s f few nx least).block.sends c.deliver.new.mails) old_mails
     (subst (λ ms. AreDelivered c.deref_mut.result.now ms c.deliver.new.mails) sent_is c.in_ok-changed.ensures.delivered) in
-    let kept : AreKept s.mails.items c.in_ok-changed.changed.items c.deliver.new.mails = subst (λ old. AreKept old c.in_ok-changed.changed.items c.deliver.new.mails) old_mails c.in_ok-changed.ensures.heard in
+    let kept : AreKept s.mails.items c.in_ok-changed.changed.keys c.deliver.new.mails = subst (λ old. AreKept old c.in_ok-changed.changed.keys c.deliver.new.mails) old_mails c.in_ok-changed.ensures.heard in
     let new_mails : c.deref.result.now ≡ c.deliver.new.mails = c.deref.ensures.value ∙ with_items_is s.mails c.deliver.new.mails (delivered.count ∙ sym s.mails.ok.0) in
     let old_count : length s.histories.items ≡ p.chares = ap (λ hs. length hs) f.histories ∙ count_numbers (λ c'. history p limit c' (mail_to (messages bs) c')) p.chares 0 in
-    let e1 = ap (λ (xs : List Bool). length xs) c.deref-2.ensures.value in
     let e2 = ap (λ (xs : List History). length xs) c.deref_mut-2.ensures.value in
     let e3 = ap (λ (xs : List (List Message)). length xs) new_mails in
-    let k1 = kept.count in
     let k2 = delivered.count in
     let k3 = f.chares in
-    (omega (arith, e1, e3, k1, k2), omega (arith, e2, e3, old_count, k2, k3))
+    omega (arith, e2, e3, old_count, k2, k3)
 
 pub renew-requires-clause-shallow : goal.renew-requires-clause-shallow
 renew-requires-clause-shallow c =
@@ -176,7 +180,7 @@ renew-requires-clause-shallow c =
     let delivered : AreDelivered s.mails.items (now p limit m small same bs s f few nx least).block.sends c.deliver.new.mails =
     subst (λ old. AreDelivered old (now p limit m small same bs s f few nx least).block.sends c.deliver.new.mails) old_mails
     (subst (λ ms. AreDelivered c.deref_mut.result.now ms c.deliver.new.mails) sent_is c.in_ok-changed.ensures.delivered) in
-    let kept : AreKept s.mails.items c.in_ok-changed.changed.items c.deliver.new.mails = subst (λ old. AreKept old c.in_ok-changed.changed.items c.deliver.new.mails) old_mails c.in_ok-changed.ensures.heard in
+    let kept : AreKept s.mails.items c.in_ok-changed.changed.keys c.deliver.new.mails = subst (λ old. AreKept old c.in_ok-changed.changed.keys c.deliver.new.mails) old_mails c.in_ok-changed.ensures.heard in
     let new_mails : c.deref.result.now ≡ c.deliver.new.mails = c.deref.ensures.value ∙ with_items_is s.mails c.deliver.new.mails (delivered.count ∙ sym s.mails.ok.0) in
     subst AreShallow (sym new_mails) (shallow_now p limit m small same bs s f few nx least can c.deliver.new.mails delivered)
 
@@ -202,7 +206,7 @@ returns-in_err-size-clause-stopped c =
     let delivered : AreDelivered s.mails.items (now p limit m small same bs s f few nx least).block.sends c.deliver.new.mails =
     subst (λ old. AreDelivered old (now p limit m small same bs s f few nx least).block.sends c.deliver.new.mails) old_mails
     (subst (λ ms. AreDelivered c.deref_mut.result.now ms c.deliver.new.mails) sent_is c.in_ok-changed.ensures.delivered) in
-    let kept : AreKept s.mails.items c.in_ok-changed.changed.items c.deliver.new.mails = subst (λ old. AreKept old c.in_ok-changed.changed.items c.deliver.new.mails) old_mails c.in_ok-changed.ensures.heard in
+    let kept : AreKept s.mails.items c.in_ok-changed.changed.keys c.deliver.new.mails = subst (λ old. AreKept old c.in_ok-changed.changed.keys c.deliver.new.mails) old_mails c.in_ok-changed.ensures.heard in
     let new_mails : c.deref.result.now ≡ c.deliver.new.mails = c.deref.ensures.value ∙ with_items_is s.mails c.deliver.new.mails (delivered.count ∙ sym s.mails.ok.0) in
     let given = err_from_is_err_and c.from_residual-in_err-size.result c.from_residual-in_err-size.ensures.1 in
     rw (given.1, given.2)
@@ -230,40 +234,13 @@ renew-requires-clause-kept c =
     let delivered : AreDelivered s.mails.items (now p limit m small same bs s f few nx least).block.sends c.deliver.new.mails =
     subst (λ old. AreDelivered old (now p limit m small same bs s f few nx least).block.sends c.deliver.new.mails) old_mails
     (subst (λ ms. AreDelivered c.deref_mut.result.now ms c.deliver.new.mails) sent_is c.in_ok-changed.ensures.delivered) in
-    let kept : AreKept s.mails.items c.in_ok-changed.changed.items c.deliver.new.mails = subst (λ old. AreKept old c.in_ok-changed.changed.items c.deliver.new.mails) old_mails c.in_ok-changed.ensures.heard in
+    let kept : AreKept s.mails.items c.in_ok-changed.changed.keys c.deliver.new.mails = subst (λ old. AreKept old c.in_ok-changed.changed.keys c.deliver.new.mails) old_mails c.in_ok-changed.ensures.heard in
     let new_mails : c.deref.result.now ≡ c.deliver.new.mails = c.deref.ensures.value ∙ with_items_is s.mails c.deliver.new.mails (delivered.count ∙ sym s.mails.ok.0) in
-    λ c' e. ap (λ (hs : List History). slice_get hs c') c.deref_mut-2.ensures.value
-    ∙ (histories_now p limit m small same bs s f few nx least c.deliver.new.mails c.in_ok-changed.changed.items delivered kept c' (ap (λ (xs : List Bool). slice_get xs c') (sym c.deref-2.ensures.value) ∙ e)
-    ∙ ap (λ ms. history_at p limit ms c') (sym new_mails))
-
-pub index_mut-requires-2 : goal.index_mut-requires-2
-index_mut-requires-2 c =
-    let p = c.args.accepted.now.program in
-    let limit = c.args.limit in
-    let m = c.args.machine.now in
-    let small = c.requires.limit.1 in
-    let same = c.requires.chares in
-    let s = c.args.self in
-    let nx = c.args.next in
-    let least = c.requires.least in
-    let bs = c.requires.follows.0 in
-    let f = c.requires.follows.1 in
-    let few = c.requires.follows.2 in
-    let x_is = block_is p limit m small same bs s f few nx least c.index.result.now c.block_at-block.result.now c.index.ensures c.block_at-block.ensures in
-    let sent_is : c.in_ok-messages.messages.items ≡ (now p limit m small same bs s f few nx least).block.sends = c.in_ok-messages.ensures ∙ (c.as_slice.ensures ∙ ap (λ (x : Block). x.sends) x_is) in
-    let old_mails = c.deref_mut.ensures.value in
-    let can : CanDeliver limit s.mails.items (now p limit m small same bs s f few nx least).block.sends =
-    subst (λ old. CanDeliver limit old (now p limit m small same bs s f few nx least).block.sends) old_mails
-    (subst (λ ms. CanDeliver limit c.deref_mut.result.now ms) sent_is c.in_ok-changed.ensures.given) in
-    let delivered : AreDelivered s.mails.items (now p limit m small same bs s f few nx least).block.sends c.deliver.new.mails =
-    subst (λ old. AreDelivered old (now p limit m small same bs s f few nx least).block.sends c.deliver.new.mails) old_mails
-    (subst (λ ms. AreDelivered c.deref_mut.result.now ms c.deliver.new.mails) sent_is c.in_ok-changed.ensures.delivered) in
-    let kept : AreKept s.mails.items c.in_ok-changed.changed.items c.deliver.new.mails = subst (λ old. AreKept old c.in_ok-changed.changed.items c.deliver.new.mails) old_mails c.in_ok-changed.ensures.heard in
-    let new_mails : c.deref.result.now ≡ c.deliver.new.mails = c.deref.ensures.value ∙ with_items_is s.mails c.deliver.new.mails (delivered.count ∙ sym s.mails.ok.0) in
-    let low = chare_low p limit m bs s f nx least same in
-    let one = kept.count in
-    let two = f.chares in
-    omega (arith, low, one, two, c.in_ok-changed.changed.ok.0)
+    let but = histories_now p limit m small same bs s f few nx least c.deliver.new.mails c.in_ok-changed.changed.keys delivered kept in
+    let count : length s.mails.items ≡ length c.deref.result.now = sym delivered.count ∙ ap (λ (xs : List (List Message)). length xs) (sym new_mails) in
+    subst (λ n. HoldsBut c.in_ok-changed.changed.keys n (λ c'. slice_get c.deref_mut-2.result.now c' ≡ history_at p limit c.deref.result.now c')) count
+    (subst (λ (hs : List History). HoldsBut c.in_ok-changed.changed.keys (length s.mails.items) (λ c'. slice_get hs c' ≡ history_at p limit c.deref.result.now c')) (sym c.deref_mut-2.ensures.value)
+    (subst (λ ms. HoldsBut c.in_ok-changed.changed.keys (length s.mails.items) (λ c'. slice_get s.histories.items c' ≡ history_at p limit ms c')) (sym new_mails) but))
 
 pub choose-requires-clause-booked : goal.choose-requires-clause-booked
 choose-requires-clause-booked c =
@@ -312,16 +289,19 @@ choose-requires-clause-kept c =
     let delivered : AreDelivered s.mails.items (now p limit m small same bs s f few nx least).block.sends c.deliver.new.mails =
     subst (λ old. AreDelivered old (now p limit m small same bs s f few nx least).block.sends c.deliver.new.mails) old_mails
     (subst (λ ms. AreDelivered c.deref_mut.result.now ms c.deliver.new.mails) sent_is c.in_ok-changed.ensures.delivered) in
-    let kept : AreKept s.mails.items c.in_ok-changed.changed.items c.deliver.new.mails = subst (λ old. AreKept old c.in_ok-changed.changed.items c.deliver.new.mails) old_mails c.in_ok-changed.ensures.heard in
+    let kept : AreKept s.mails.items c.in_ok-changed.changed.keys c.deliver.new.mails = subst (λ old. AreKept old c.in_ok-changed.changed.keys c.deliver.new.mails) old_mails c.in_ok-changed.ensures.heard in
     let new_mails : c.deref.result.now ≡ c.deliver.new.mails = c.deref.ensures.value ∙ with_items_is s.mails c.deliver.new.mails (delivered.count ∙ sym s.mails.ok.0) in
     let are : AreHistories p limit c.deliver.new.mails c.renew.new.histories = subst (λ ms. AreHistories p limit ms c.renew.new.histories) new_mails c.in_ok-size.ensures.taken in
     let old_count : length s.histories.items ≡ p.chares = ap (λ hs. length hs) f.histories ∙ count_numbers (λ c'. history p limit c' (mail_to (messages bs) c')) p.chares 0 in
     let same_items = with_items_is s.histories c.renew.new.histories (are.count ∙ (delivered.count ∙ (f.chares ∙ (sym old_count ∙ sym s.histories.ok.0)))) in
-    let new_histories : c.deref-3.result.now ≡ c.renew.new.histories = c.deref-3.ensures.value ∙ same_items in
-    λ c' e.
-    subst (λ (hs : List History). best_at m c.put.new.self hs c.deref_mut-3.result.now c') (sym new_histories)
-    (subst (λ bests. best_at m c.put.new.self c.renew.new.histories bests c') (sym c.deref_mut-3.ensures.value)
-    (bests_kept p limit m small same bs s f few nx least can c.put.new.self book_is c.deliver.new.mails c.in_ok-changed.changed.items delivered kept c.renew.new.histories are c' (ap (λ (xs : List Bool). slice_get xs c') (sym c.deref-4.ensures.value) ∙ e)))
+    let new_histories : c.deref-2.result.now ≡ c.renew.new.histories = c.deref-2.ensures.value ∙ same_items in
+    let but = bests_kept p limit m small same bs s f few nx least can c.put.new.self book_is c.deliver.new.mails c.in_ok-changed.changed.keys delivered kept c.renew.new.histories are in
+    subst (λ cs. HoldsBut cs (length c.deref-2.result.now) (best_at m c.put.new.self c.deref-2.result.now c.end_at.new.self.bests.items)) (sym c.in_ok-list.ensures)
+    (subst (λ (hs : List History). HoldsBut (insert_key nat_cmp c.in_ok-changed.changed.keys nx.chare) (length hs) (best_at m c.put.new.self hs c.end_at.new.self.bests.items)) (sym new_histories)
+    (subst (λ bests. HoldsBut (insert_key nat_cmp c.in_ok-changed.changed.keys nx.chare) (length c.renew.new.histories) (best_at m c.put.new.self c.renew.new.histories bests)) (sym c.in_ok-end_at.ensures.bests) but))
+
+pub choose-requires-clause-agenda : goal.choose-requires-clause-agenda
+choose-requires-clause-agenda c = c.in_ok-end_at.ensures.agenda c.args.machine.now c.requires.follows.1.agenda
 
 pub returns-clause-follows : goal.returns-clause-follows
 returns-clause-follows c =
@@ -345,19 +325,17 @@ returns-clause-follows c =
     let delivered : AreDelivered s.mails.items (now p limit m small same bs s f few nx least).block.sends c.deliver.new.mails =
     subst (λ old. AreDelivered old (now p limit m small same bs s f few nx least).block.sends c.deliver.new.mails) old_mails
     (subst (λ ms. AreDelivered c.deref_mut.result.now ms c.deliver.new.mails) sent_is c.in_ok-changed.ensures.delivered) in
-    let kept : AreKept s.mails.items c.in_ok-changed.changed.items c.deliver.new.mails = subst (λ old. AreKept old c.in_ok-changed.changed.items c.deliver.new.mails) old_mails c.in_ok-changed.ensures.heard in
+    let kept : AreKept s.mails.items c.in_ok-changed.changed.keys c.deliver.new.mails = subst (λ old. AreKept old c.in_ok-changed.changed.keys c.deliver.new.mails) old_mails c.in_ok-changed.ensures.heard in
     let new_mails : c.deref.result.now ≡ c.deliver.new.mails = c.deref.ensures.value ∙ with_items_is s.mails c.deliver.new.mails (delivered.count ∙ sym s.mails.ok.0) in
     let are : AreHistories p limit c.deliver.new.mails c.renew.new.histories = subst (λ ms. AreHistories p limit ms c.renew.new.histories) new_mails c.in_ok-size.ensures.taken in
     let old_count : length s.histories.items ≡ p.chares = ap (λ hs. length hs) f.histories ∙ count_numbers (λ c'. history p limit c' (mail_to (messages bs) c')) p.chares 0 in
     let same_items = with_items_is s.histories c.renew.new.histories (are.count ∙ (delivered.count ∙ (f.chares ∙ (sym old_count ∙ sym s.histories.ok.0)))) in
-    let new_histories : c.deref-3.result.now ≡ c.renew.new.histories = c.deref-3.ensures.value ∙ same_items in
+    let new_histories : c.deref-2.result.now ≡ c.renew.new.histories = c.deref-2.ensures.value ∙ same_items in
     let size_is = c.in_ok-size.ensures.size in
     let home = home_is p limit m bs s f nx least same in
-    let ends_are : slice_set s.ends.items nx.processor c.in_ok-begun.begun.row.end ≡ slice_set s.ends.items (home_of m nx.chare) (nx.start + duration_of m (now p limit m small same bs s f few nx least).block.cost) = λ i. slice_set s.ends.items (home i) ((begun_is i).row.end) in
-    let bests_are : AreBest m c.put.new.self c.renew.new.histories c.choose.new.bests = subst (λ (hs : List History). AreBest m c.put.new.self hs c.choose.new.bests) new_histories c.in_ok-choose.ensures in
-    let mail_items = with_items_is s.mails c.deliver.new.mails (delivered.count ∙ sym s.mails.ok.0) in
-    let best_items = with_items_is s.bests c.choose.new.bests (bests_are.count ∙ (are.count ∙ (delivered.count ∙ (f.chares ∙ (sym (chares_here p limit m bs s f) ∙ sym s.bests.ok.0))))) in (
+    let ends_are : slice_set s.agenda.ends.items nx.processor c.in_ok-begun.begun.row.end ≡ slice_set s.agenda.ends.items (home_of m nx.chare) (nx.start + duration_of m (now p limit m small same bs s f few nx least).block.cost) = λ i. slice_set s.agenda.ends.items (home i) ((begun_is i).row.end) in
+    let bests_are : AreBest m c.put.new.self c.renew.new.histories c.choose.new.agenda.bests.items = subst (λ (hs : List History). AreBest m c.put.new.self hs c.choose.new.agenda.bests.items) new_histories c.in_ok-choose.ensures.bests in
+    let mail_items = with_items_is s.mails c.deliver.new.mails (delivered.count ∙ sym s.mails.ok.0) in (
       now p limit m small same bs s f few nx least,
-      follows_now p limit m small same bs s f few nx least can c.put.new.self book_is c.deliver.new.mails c.in_ok-changed.changed.items delivered kept c.renew.new.histories are _ refl ends_are mail_items same_items size_is
-          (subst (λ bests. AreBest m c.put.new.self c.renew.new.histories bests) (sym best_items) bests_are),
+      follows_now p limit m small same bs s f few nx least can c.put.new.self book_is c.deliver.new.mails c.in_ok-changed.changed.keys delivered kept c.renew.new.histories are _ refl (c.in_ok-choose.ensures.ends ∙ (c.in_ok-end_at.ensures.ends ∙ ends_are)) mail_items same_items size_is bests_are c.in_ok-choose.ensures.agenda,
     )
