@@ -1,6 +1,5 @@
 // What each processor starts next, and which of them starts first.
-ghost use Rattle.std.specs.Prelude.{◌≡◌, ◌<◌, ℕ, IfOk, OnOk, None, Option, length, replicate, slice_index_or, slice_set, All};
-ghost use Rattle.bs_machine.specs.Fitted.{processors_of};
+ghost use Rattle.std.specs.Prelude.{◌≡◌, ◌<◌, ℕ, IfOk, OnOk, Option, length, slice_index_or, slice_set};
 ghost use Rattle.bs_machine.specs.declared.fitted.Fitted.{Fitted as Machine};
 ghost use Rattle.bs_model.specs.Agenda.{AreIdle, AreNone, IsAgenda, ready_of, start_of};
 ghost use Rattle.bs_model.specs.Line.{IsFirst, IsLine, first_of};
@@ -34,8 +33,7 @@ pub(crate) struct Agenda {
 }
 
 impl Agenda {
-    ghost use Rattle.std.specs.Prelude.{◌≡◌, ◌<◌, ℕ, IfOk, OnOk, None, Option, length, replicate, slice_index_or, slice_set, All};
-    ghost use Rattle.bs_machine.specs.Fitted.{processors_of};
+    ghost use Rattle.std.specs.Prelude.{◌≡◌, ◌<◌, ℕ, IfOk, OnOk, Option, length, slice_index_or, slice_set};
     ghost use Rattle.bs_machine.specs.declared.fitted.Fitted.{Fitted as Machine};
     ghost use Rattle.bs_model.specs.Agenda.{AreIdle, AreNone, IsAgenda, ready_of, start_of};
     ghost use Rattle.bs_model.specs.Line.{IsFirst, IsLine, first_of};
