@@ -3,6 +3,7 @@ import os
 import stat
 
 from front import codes, pointing, usage
+from front.program import ask
 from front.words import read
 
 LOG_BEGINS = b"bslog 1\n"
@@ -42,14 +43,23 @@ def behind(words, answer):
         return pointing.check_failed(line, program)
     if answer.code == codes.AMBIGUOUS and program:
         return pointing.ambiguous(line, program)
-    if answer.code == codes.BAD_MACHINE and found.machine():
-        return pointing.bad_machine(line, found.machine())
+    if answer.code == codes.BAD_MACHINE:
+        return bad_machine(found, line)
     if answer.code == codes.BAD_LOG and log:
         return pointing.bad_log(line, log)
     if answer.code in (codes.DEADLOCK, codes.TRAPPED):
         return ends(found, answer)
     special = SILENT.get(answer.code)
     return [f"pochvean: {it}" for it in special(found, words)] if special else []
+
+
+def bad_machine(found, line):
+    """Which machine is refused, where there are several, and the key of its file that is at fault."""
+    files = found.machines()
+    if len(files) < 2:
+        return pointing.bad_machine(line, files[0]) if files else []
+    refused = next((it for it in files if ask([found.command, found.names[0], it]).code == codes.BAD_MACHINE), None)
+    return [f"{refused}: this machine is refused", *pointing.bad_machine(line, refused)] if refused else []
 
 
 def last_line(data):

@@ -3,7 +3,7 @@ import difflib
 import shutil
 import subprocess
 
-from front.words import COMMANDS, VALUES, read, why_bad
+from front.words import COMMANDS, FLAGS, VALUES, read, why_bad
 
 OWN = {
     "outline": ("outline PROG", "lists the statements of a program by their numbers, with their places"),
@@ -26,6 +26,10 @@ MORE = {
     "KIND": "KIND is ring, stencil or tree (docs/workloads.md).",
     "N": "N is the number of chares, from 1 to 512.",
     "SEED": "SEED is a number from 0 to 999999, which sets how much the chares work.",
+    "STMT": "STMT is the number of a statement, from 1 to 10000 ('./pochvean outline PROG' lists them).",
+    "NUM": "NUM and DEN are a fraction: each block of the statement costs NUM / DEN of what it did, rounded up.",
+    "DEN": "NUM is 1 to DEN, and DEN 1 to 65535.",
+    "--spans": "--spans prints spans alone, and counts no waves.",
     "--limit": "--limit N bounds the size of the run, from 1 to 262144, which it is without the option.",
     "--waves": (
         "--waves V bounds the waves of corrections, from 1 to 1099511627776. Without it there are as many as it takes."
@@ -40,7 +44,8 @@ def synopsis(name):
     if name in OWN:
         return OWN[name][0]
     command = COMMANDS[name]
-    return " ".join([name, *command.names, *(f"[{it} {VALUES[it]}]" for it in command.options)])
+    names = [*command.names[:-1], command.names[-1] + (".." if command.more else "")]
+    return " ".join([name, *names, *(f"[{it}]" if it in FLAGS else f"[{it} {VALUES[it]}]" for it in command.options)])
 
 
 def does(name):
@@ -64,6 +69,8 @@ def of_command(name):
     if name in COMMANDS:
         command = COMMANDS[name]
         lines += ["", *(MORE[it] for it in (*command.names, *command.options))]
+        if command.more:
+            lines[lines.index(MORE["MACHINE"])] += f" There are 1 to {command.more + 1} of them."
         if name == "emulate":
             lines[lines.index(MORE["LOG"])] += " It is made or replaced."
     if name == "outline":

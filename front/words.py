@@ -7,6 +7,10 @@ from typing import Dict, List, NamedTuple, Optional
 
 PROG, LOG, MACHINE = "PROG", "LOG", "MACHINE"
 KIND, CHARES, SEED = "KIND", "N", "SEED"
+STMT, NUM, DEN = "STMT", "NUM", "DEN"
+
+# How many machines a sweep has at most.
+MACHINES = 32
 
 
 class Command(NamedTuple):
@@ -15,6 +19,8 @@ class Command(NamedTuple):
     names: tuple
     options: tuple
     does: str
+    more: int = 0
+    """How many further names may stand behind the last one, for the same."""
 
 
 COMMANDS: Dict[str, Command] = {
@@ -31,6 +37,12 @@ COMMANDS: Dict[str, Command] = {
     "chain": Command(
         (LOG, MACHINE), ("--workers",), "prints the blocks that the span waits for, each with what it waited for"
     ),
+    "sweep": Command(
+        (LOG, MACHINE), ("--spans",), "prints how long a log takes on each of several machines", MACHINES - 1
+    ),
+    "tune": Command(
+        (LOG, MACHINE, STMT, NUM, DEN), ("--spans",), "prints how long a log takes before and after a statement costs less"
+    ),
     "gen": Command((KIND, CHARES, SEED), (), "prints a program that is made from a kind, a number of chares and a seed"),
     "trial": Command((KIND, CHARES, SEED), ("--workers",), "runs such a program on flat:64:10, and prints one line"),
 }
@@ -42,6 +54,9 @@ KINDS = ("ring", "stencil", "tree")
 RANGES = {"--limit": 262_144, "--workers": 64, "--waves": 2**40}
 VALUES = {"--limit": "N", "--workers": "W", "--waves": "V", "--journal": "FILE"}
 
+# The options that have no value.
+FLAGS = ("--spans",)
+
 
 class Read(NamedTuple):
     """A list of words that was read: the command, its names, and the values of its options."""
@@ -52,9 +67,8 @@ class Read(NamedTuple):
 
     def reads(self) -> List[str]:
         """The files that the command reads, in the order in which it opens them."""
-        roles = COMMANDS[self.command].names if self.command in COMMANDS else ()
         found = []
-        for role, name in zip(roles, self.names):
+        for role, name in zip(roles_of(self.command, len(self.names)), self.names):
             if role not in (PROG, LOG, MACHINE):
                 continue
             if role == MACHINE and name.startswith("flat:") or self.command == "emulate" and role == LOG:
@@ -78,11 +92,24 @@ class Read(NamedTuple):
         is_first = self.command in COMMANDS and COMMANDS[self.command].names[0] == LOG
         return self.names[0] if is_first and self.names else None
 
+    def machines(self) -> List[str]:
+        """The files of the machines that the command reads, in the order in which it opens them."""
+        roles = roles_of(self.command, len(self.names))
+        named = [name for role, name in zip(roles, self.names) if role == MACHINE]
+        return [it for it in named if not it.startswith("flat:")]
+
     def machine(self) -> Optional[str]:
-        """The file of the machine, if the command reads one."""
-        has_one = self.command in COMMANDS and MACHINE in COMMANDS[self.command].names
-        name = self.names[1] if has_one and len(self.names) > 1 else None
-        return None if name is None or name.startswith("flat:") else name
+        """The file of the machine, if the command reads just one."""
+        found = self.machines()
+        return found[0] if len(found) == 1 else None
+
+
+def roles_of(command, count):
+    """What each of so many names stands for."""
+    if command not in COMMANDS:
+        return ()
+    names = COMMANDS[command].names
+    return (*names, *[names[-1]] * min(max(count - len(names), 0), COMMANDS[command].more))
 
 
 def read(words) -> Read:
@@ -92,6 +119,8 @@ def read(words) -> Read:
         if waits is not None:
             options[waits] = word
             waits = None
+        elif word in FLAGS:
+            options[word] = ""
         elif word.startswith("-"):
             name, has_value, value = word.partition("=")
             if has_value:
@@ -132,12 +161,12 @@ def why_not_plain(words):
                 return f"'{waits}' has no value"
             waits = None
         elif word.startswith("-"):
-            if word not in VALUES:
+            if word not in VALUES and word not in FLAGS:
                 return of_option(word)
             if word in seen:
                 return f"'{word}' stands twice"
             seen.add(word)
-            waits, has_closed = word, has_closed or bare > 1
+            waits, has_closed = None if word in FLAGS else word, has_closed or bare > 1
         else:
             bare += 1
             if has_closed:
@@ -148,6 +177,8 @@ def why_not_plain(words):
 def of_option(word):
     """Why a word with a hyphen is no option."""
     name, has_value, value = word.partition("=")
+    if has_value and name in FLAGS:
+        return f"'{name}' has no value"
     if has_value and name in VALUES:
         return f"the value of an option is a word of its own: '{name} {value}'"
     return f"there is no option '{word}'"
@@ -158,13 +189,15 @@ def why_no_command(found):
     command = COMMANDS.get(found.command)
     if command is None:
         return f"there is no command '{found.command}'" if found.command else "there is no command among the words"
-    if len(found.names) != len(command.names):
-        wanted = " ".join(command.names)
-        count = "name" if len(command.names) == 1 else "names"
+    least, most = len(command.names), len(command.names) + command.more
+    if not least <= len(found.names) <= most:
+        wanted = " ".join(command.names) + (".." if command.more else "")
+        many = f"{least} to {most}" if command.more else f"{least}"
+        count = "name" if most == 1 else "names"
         stand = "stands" if len(found.names) == 1 else "stand"
-        takes = f"'{found.command}' takes {len(command.names)} {count}, {wanted}"
+        takes = f"'{found.command}' takes {many} {count}, {wanted}"
         return f"{takes}, and {len(found.names)} {stand} here"
-    for role, name in zip(command.names, found.names):
+    for role, name in zip(roles_of(found.command, len(found.names)), found.names):
         if role == MACHINE and name.startswith("flat:") and not is_flat(name):
             ranges = "P processors (1 to 65536) and latency L (1 to 274877906944)"
             return f"'{name}' is no flat machine: flat:P:L has {ranges}"
@@ -172,9 +205,21 @@ def why_no_command(found):
             return f"'{name}' is no kind of program: there are {', '.join(KINDS)}"
         if role == CHARES and not is_number(name, 512):
             return f"a generated program has from 1 to 512 chares, and not '{name}'"
+        if role == STMT and not is_number(name, 10_000):
+            return f"the number of a statement is from 1 to 10000, and not '{name}'"
         if role == SEED and name != "0" and not is_number(name, 999_999):
             return f"a seed is a plain number from 0 to 999999, and not '{name}'"
-    return of_settings(found, command)
+    return of_fraction(found) or of_settings(found, command)
+
+
+def of_fraction(found):
+    """Why the last two names of a tuning are no fraction."""
+    if found.command != "tune":
+        return None
+    num, den = found.names[3:]
+    if not is_number(den, 65_535):
+        return f"DEN is a plain number from 1 to 65535, and not '{den}'"
+    return None if is_number(num, int(den)) else f"NUM is a plain number from 1 to DEN, and not '{num}'"
 
 
 def of_settings(found, command):

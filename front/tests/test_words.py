@@ -7,8 +7,8 @@ from front import usage, words
 from front.tests.support import EXAMPLES, ask, folder, played, program
 
 PIECES = (
-    "check model emulate run predict trace modle a.sd b.toml flat:2:5 flat:0:1 flat:x --limit --waves --workers --journal "
-    "--frob 5 0 05 65 300000 --limit=5 -h x"
+    "check model emulate run predict trace sweep tune modle a.sd b.toml flat:2:5 flat:0:1 flat:x --limit --waves "
+    "--workers --journal --spans --frob 5 0 05 65 300000 --limit=5 -h x"
 ).split() + [""]
 
 
@@ -66,6 +66,14 @@ class Bad(unittest.TestCase):
             (["run", "a", ""], "a word is empty"),
             (["run", "a", "b", "--waves", "1", "--waves", "2"], "'--waves' stands twice"),
             (["predict", "a", "b", "--journal", "j", "--workers", "2"], "written by one worker"),
+            (["sweep", "a"], "takes 2 to 33 names, LOG MACHINE.., and 1 stands here"),
+            (["sweep", "a", *["b"] * 33], "and 34 stand here"),
+            (["sweep", "a", "b", "flat:0:5"], "'flat:0:5' is no flat machine"),
+            (["predict", "a", "b", "--spans"], "'predict' has no option '--spans'"),
+            (["sweep", "a", "b", "--spans=1"], "'--spans' has no value"),
+            (["tune", "a", "b", "0", "1", "2"], "from 1 to 10000, and not '0'"),
+            (["tune", "a", "b", "6", "3", "2"], "from 1 to DEN, and not '3'"),
+            (["tune", "a", "b", "6", "1", "65536"], "from 1 to 65535, and not '65536'"),
         ):
             self.assertIn(wanted, words.why_bad(line) or "", line)
 
@@ -83,6 +91,8 @@ class Bad(unittest.TestCase):
         self.assertEqual((found.reads(), found.writes(), found.program()), (["p.sd", "m.toml"], [], "p.sd"))
         found = words.read(["predict", "a.log", "flat:1:1", "--journal", "j"])
         self.assertEqual((found.reads(), found.writes(), found.log()), (["a.log"], ["j"], "a.log"))
+        found = words.read(["sweep", "--spans", "a.log", "b.toml", "flat:1:1", "c.toml"])
+        self.assertEqual((found.reads(), found.machines()), (["a.log", "b.toml", "c.toml"], ["b.toml", "c.toml"]))
         found = words.read(["emulate", "p.sd", "a.log"])
         self.assertEqual((found.reads(), found.writes()), (["p.sd"], ["a.log"]))
 

@@ -20,7 +20,7 @@ use Rattle.bs_top.specs.Computing.{Computes, IsComputed}
 use Rattle.bs_top.specs.Inputs.{file_limit, log_limit}
 use Rattle.bs_top.specs.Performs.{Cause, FailsToRead, FailsToWrite, FindsNoFile, Puts, ReadsNothing, ReadsTooMuch, ReadsWhole, Refuses, Tells, WriteCause, written_status}
 use Rattle.bs_top.specs.Targets.{Note, TargetOf, output, errors, in_file, noted, put}
-use Rattle.bs_top.specs.Words.{Asked, check, model, emulate, run, predict, trace, chain, gen, trial}
+use Rattle.bs_top.specs.Words.{Asked, check, model, emulate, run, predict, trace, chain, sweep, tune, gen, trial}
 
 -- what was read is as it was
 record Stays (mid new : Outside) : Type 0 where
@@ -62,6 +62,8 @@ abbrev pub ReadsLogs : Asked → Type 0
 ReadsLogs (predict name word waves journal) = Unit {0}
 ReadsLogs (trace name word) = Unit {0}
 ReadsLogs (chain name word) = Unit {0}
+ReadsLogs (sweep name words spans) = Unit {0}
+ReadsLogs (tune name word tuning spans) = Unit {0}
 ReadsLogs _ = ⊥
 
 -- it reads no file
@@ -129,6 +131,8 @@ module _ {A : Type 0} (old new : Outside) where
   program_cause (predict name word waves journal) f r h = absurd f
   program_cause (trace name word) f r h = absurd f
   program_cause (chain name word) f r h = absurd f
+  program_cause (sweep name words spans) f r h = absurd f
+  program_cause (tune name word tuning spans) f r h = absurd f
   program_cause (gen program) f r h = absurd f
   program_cause (trial program) f r h = absurd f
 
@@ -141,6 +145,8 @@ module _ {A : Type 0} (old new : Outside) where
   log_cause (predict name word waves journal) f r h = of_command (predict name word waves journal) r (no_words_read log_limit r h) h
   log_cause (trace name word) f r h = of_command (trace name word) r (no_words_read log_limit r h) h
   log_cause (chain name word) f r h = of_command (chain name word) r (no_words_read log_limit r h) h
+  log_cause (sweep name words spans) f r h = of_command (sweep name words spans) r (no_words_read log_limit r h) h
+  log_cause (tune name word tuning spans) f r h = of_command (tune name word tuning spans) r (no_words_read log_limit r h) h
   log_cause (gen program) f r h = absurd f
   log_cause (trial program) f r h = absurd f
 
@@ -153,6 +159,8 @@ module _ {A : Type 0} (old new : Outside) where
   computed_cause (predict name word waves journal) f r e h = absurd f
   computed_cause (trace name word) f r e h = absurd f
   computed_cause (chain name word) f r e h = absurd f
+  computed_cause (sweep name words spans) f r e h = absurd f
+  computed_cause (tune name word tuning spans) f r e h = absurd f
   computed_cause (gen program) f r e h = of_command (gen program) r (no_words_computed r h) (e, h)
   computed_cause (trial program) f r e h = of_command (trial program) r (no_words_computed r h) (e, h)
 
@@ -203,6 +211,8 @@ module _ (old mid new : Outside) (s : Stays mid new) where
   reads_whole (Some (predict name word waves journal)) r i h = record { command = refl; read = from_read (step_read log_limit r i h) }
   reads_whole (Some (trace name word)) r i h = record { command = refl; read = from_read (step_read log_limit r i h) }
   reads_whole (Some (chain name word)) r i h = record { command = refl; read = from_read (step_read log_limit r i h) }
+  reads_whole (Some (sweep name words spans)) r i h = record { command = refl; read = from_read (step_read log_limit r i h) }
+  reads_whole (Some (tune name word tuning spans)) r i h = record { command = refl; read = from_read (step_read log_limit r i h) }
   reads_whole (Some (gen program)) r i h = record { command = refl; read = nothing_read h.0 }
   reads_whole (Some (trial program)) r i h = record { command = refl; read = nothing_read h.0 }
 
@@ -218,6 +228,8 @@ module _ (old mid new : Outside) (s : Stays mid new) where
   reads_too_much A (Some (predict name word waves journal)) limit h = let is = too_much log_limit limit h in record { command = tt; found = is.0; limit = limit; is_limit = is.1; taken = is.2 }
   reads_too_much A (Some (trace name word)) limit h = let is = too_much log_limit limit h in record { command = tt; found = is.0; limit = limit; is_limit = is.1; taken = is.2 }
   reads_too_much A (Some (chain name word)) limit h = let is = too_much log_limit limit h in record { command = tt; found = is.0; limit = limit; is_limit = is.1; taken = is.2 }
+  reads_too_much A (Some (sweep name words spans)) limit h = let is = too_much log_limit limit h in record { command = tt; found = is.0; limit = limit; is_limit = is.1; taken = is.2 }
+  reads_too_much A (Some (tune name word tuning spans)) limit h = let is = too_much log_limit limit h in record { command = tt; found = is.0; limit = limit; is_limit = is.1; taken = is.2 }
   reads_too_much A (Some (gen program)) limit h = absurd h.1
   reads_too_much A (Some (trial program)) limit h = absurd h.1
 
@@ -233,6 +245,8 @@ module _ (A : Type 0) (old new : Outside) where
   no_file (Some (predict name word waves journal)) h = record { command = tt; found = h.0; taken = h.1 }
   no_file (Some (trace name word)) h = record { command = tt; found = h.0; taken = h.1 }
   no_file (Some (chain name word)) h = record { command = tt; found = h.0; taken = h.1 }
+  no_file (Some (sweep name words spans)) h = record { command = tt; found = h.0; taken = h.1 }
+  no_file (Some (tune name word tuning spans)) h = record { command = tt; found = h.0; taken = h.1 }
   no_file (Some (gen program)) h = absurd h.1
   no_file (Some (trial program)) h = absurd h.1
 
@@ -245,6 +259,8 @@ module _ (A : Type 0) (old new : Outside) where
   read_fault (Some (predict name word waves journal)) h = record { command = tt; can_fail = h.0; rose = h.1 }
   read_fault (Some (trace name word)) h = record { command = tt; can_fail = h.0; rose = h.1 }
   read_fault (Some (chain name word)) h = record { command = tt; can_fail = h.0; rose = h.1 }
+  read_fault (Some (sweep name words spans)) h = record { command = tt; can_fail = h.0; rose = h.1 }
+  read_fault (Some (tune name word tuning spans)) h = record { command = tt; can_fail = h.0; rose = h.1 }
   read_fault (Some (gen program)) h = absurd h.1
   read_fault (Some (trial program)) h = absurd h.1
 

@@ -1,5 +1,6 @@
 -- What comes of files that hold all that a command needs.
-use Rattle.std.proofs.Common.{◌≡◌, ◌≤◌, ◌<◌, ℕ, List, length, true, refl, ap, subst, ◌∙◌, inl, inr, Option, None, Some, Result, Ok, Err, arith}
+use Rattle.std.proofs.Common.{◌≡◌, sym, ◌++◌, ◌∷◌, [], Bool, ◌≤◌, ◌<◌, ℕ, List, length, true, refl, ap, subst, ◌∙◌, inl, inr, Option, None, Some, Result, Ok, Err, arith}
+use Rattle.std.proofs.lemmas.List.{append-nil, append_assoc}
 use Rattle.bs_desk.specs.Outside.{Outside, Files}
 use Rattle.bs_log.specs.Collected.{log_of}
 use Rattle.bs_log.specs.declared.history.History.{History}
@@ -17,7 +18,7 @@ use Rattle.bs_times.specs.Times.{budget}
 use Rattle.bs_top.specs.commands.Predict.{predicted_with as asked_of_log, predicted}
 use Rattle.bs_top.specs.Answer.{Answer, IsAnswer, answer_of, reply_to}
 use Rattle.bs_top.specs.Waves.{IsTooFew, budget_of, within}
-use Rattle.bs_top.specs.Inputs.{accepted, contents, file_limit, fits, log_in, log_limit, log_named, machine_named, or_bad_machine, program_in}
+use Rattle.bs_top.specs.Inputs.{accepted, contents, file_limit, fits, fitting_machine, log_in, log_limit, log_named, machine_named, machines_behind, or_bad_machine, program_in}
 use Rattle.bs_top.specs.commands.Journal.{journaled, journaled_on}
 use Rattle.bs_top.specs.Verdicts.{judged, logged}
 use Rattle.bs_top.specs.commands.Emulate.{kept_in}
@@ -26,14 +27,17 @@ use Rattle.bs_top.specs.commands.Run.{ran}
 use Rattle.bs_top.specs.Reports.{serial_run, timed_on}
 use Rattle.bs_top.specs.commands.Model.{simulated}
 use Rattle.bs_top.specs.commands.Chain.{chain_on, chained}
+use Rattle.bs_top.specs.commands.Sweep.{sweep_on}
 use Rattle.bs_top.specs.commands.Trace.{trace_on, traced}
-use Rattle.bs_top.specs.Complete.{CanEmulate, CanPredict, CanRun, Ends, HasFile, HasLog, HasMachine, HasProgram, IsAmple, IsAmpleFor, IsChained, IsJournaled, IsPredicted, IsReported, IsTraced, logged_in}
+use Rattle.bs_top.specs.commands.Tune.{tune_on, tuned}
+use Rattle.bs_top.specs.Complete.{CanEmulate, CanPredict, CanRun, CanSweep, Ends, HasFile, HasLog, HasMachine, HasProgram, HaveMachines, IsAmple, IsAmpleFor, IsChained, IsJournaled, IsPredicted, IsReported, IsSwept, IsTraced, IsTuned, logged_in}
 use Rattle.bs_top.specs.Performs.{Answers, WritesAnswer}
 use Rattle.bs_top.specs.Step.{Said, Step, and_then}
-use Rattle.bs_top.specs.Words.{Asked, check, model, emulate, run, predict, trace, chain}
+use Rattle.bs_top.specs.Words.{Asked, check, model, emulate, run, predict, trace, chain, sweep, tune}
 use Rattle.bs_words.specs.Machine.{MachineWord, flat, file}
+use Rattle.bs_words.specs.declared.tuning.Tuning.{Tuning}
 use Rattle.bs_top.specs.Known.{Known}
-use Rattle.bs_top.proofs.OneAnswer.{one_accepted, one_contents, one_fit, one_judged, one_logged, one_named, one_reply}
+use Rattle.bs_top.proofs.OneAnswer.{one_accepted, one_contents, one_fit, one_judged, one_logged, one_machines, one_named, one_reply}
 use Rattle.bs_top.proofs.OneLog.{one_log}
 use Rattle.bs_top.proofs.OneStep.{past}
 use Rattle.bs_top.proofs.Reading.{read_whole}
@@ -71,6 +75,14 @@ is_trace kept m (Err stop) a h is = absurd h
 is_chain : (kept : Log) (m : MachineOf) (r : Result Said Stopped) (a : Answer) → chain_on kept m r → a ≡ answer_of r → IsChained kept m a
 is_chain kept m (Ok said) a h is = (said, h, is)
 is_chain kept m (Err stop) a h is = absurd h
+
+is_sweep : (spans : Bool) (kept : Log) (ms : List MachineOf) (r : Result Said Stopped) (a : Answer) → sweep_on spans kept ms r → a ≡ answer_of r → IsSwept spans kept ms a
+is_sweep spans kept ms (Ok said) a h is = (said, h, is)
+is_sweep spans kept ms (Err stop) a h is = absurd h
+
+is_tune : (tuning : Tuning) (spans : Bool) (kept : Log) (m : MachineOf) (r : Result Said Stopped) (a : Answer) → tune_on tuning spans kept m r → a ≡ answer_of r → IsTuned tuning spans kept m a
+is_tune tuning spans kept m (Ok said) a h is = (said, h, is)
+is_tune tuning spans kept m (Err stop) a h is = absurd h
 
 module _ (files : Files) where
   reads : (name bytes : List ℕ) → HasFile files name bytes → contents file_limit files name (Ok bytes)
@@ -189,6 +201,10 @@ module _ (files : Files) where
     unfolding chained
     with_chain kept m r fit h = past (fits kept.chares m) (λ _. chain_on kept m) (one_fit kept.chares m) tt (fitting kept.chares m fit) r h
 
+    with_tune : (tuning : Tuning) (spans : Bool) (kept : Log) (m : MachineOf) (r : Result Said Stopped) → has_length m.place kept.chares ≡ true → tuned tuning spans kept m r → tune_on tuning spans kept m r
+    unfolding tuned
+    with_tune tuning spans kept m r fit h = past (fits kept.chares m) (λ _. tune_on tuning spans kept m) (one_fit kept.chares m) tt (fitting kept.chares m fit) r h
+
     -- past the log and the machine
     on_both : (name : List ℕ) (word : MachineWord) (next : Log → MachineOf → Step Said) (kept : Log) (m : MachineOf) (r : Result Said Stopped)
         → CanPredict files name word kept m → and_then (log_named files name) (λ kept. and_then (machine_named files word) (λ m. next kept m)) r → next kept m r
@@ -225,6 +241,37 @@ module _ (files : Files) where
 
     pub chains : (name : List ℕ) (word : MachineWord) (kept : Log) (m : MachineOf) (a : Answer) → CanPredict files name word kept m → IsAnswer files (Some (chain name word)) a → IsChained kept m a
     chains name word kept m a can is = is_chain kept m is.reply a (with_chain kept m is.reply can.is_fitting (chains_on name word kept m is.reply can is.is_reply)) is.is_answer
+
+    tunes_on : (name : List ℕ) (word : MachineWord) (tuning : Tuning) (spans : Bool) (kept : Log) (m : MachineOf) (r : Result Said Stopped) → CanPredict files name word kept m → reply_to files (Some (tune name word tuning spans)) r → tuned tuning spans kept m r
+    unfolding reply_to
+    tunes_on name word tuning spans kept m r can h = on_both name word (tuned tuning spans) kept m r can h
+
+    pub tunes : (name : List ℕ) (word : MachineWord) (tuning : Tuning) (spans : Bool) (kept : Log) (m : MachineOf) (a : Answer)
+        → CanPredict files name word kept m → IsAnswer files (Some (tune name word tuning spans)) a → IsTuned tuning spans kept m a
+    tunes name word tuning spans kept m a can is =
+        is_tune tuning spans kept m is.reply a (with_tune tuning spans kept m is.reply can.is_fitting (tunes_on name word tuning spans kept m is.reply can is.is_reply)) is.is_answer
+
+    -- each machine of a sweep is read and fits
+    reads_machines : (chares : ℕ) (words : List MachineWord) (ms before : List MachineOf) → HaveMachines files chares words ms → machines_behind before files chares words (Ok (before ++ ms))
+    unfolding machines_behind fitting_machine
+    reads_machines chares [] [] before h = ap (λ ms. Ok ms) (sym (append-nil before))
+    reads_machines chares [] (m ∷ ms) before h = absurd h
+    reads_machines chares (word ∷ words) [] before h = absurd h
+    reads_machines chares (word ∷ words) (m ∷ ms) before h =
+        let rest = reads_machines chares words ms (before ++ m ∷ []) h.2 in
+        (m, (m, names word m h.0, (tt, fitting chares m h.1, refl)), subst (λ all. machines_behind (before ++ m ∷ []) files chares words (Ok all)) (append_assoc before (m ∷ []) ms) rest)
+
+    sweeps_on : (name : List ℕ) (words : List MachineWord) (spans : Bool) (kept : Log) (ms : List MachineOf) (r : Result Said Stopped)
+        → CanSweep files name words kept ms → reply_to files (Some (sweep name words spans)) r → sweep_on spans kept ms r
+    unfolding reply_to
+    sweeps_on name words spans kept ms r can h =
+        let one = one_log known.logs files name (one_contents log_limit files name) in
+        past (machines_behind [] files kept.chares words) (λ ms. sweep_on spans kept ms) (one_machines files kept.chares words []) ms (reads_machines kept.chares words ms [] can.are_fitting) r
+        (past (log_named files name) (λ kept. and_then (machines_behind [] files kept.chares words) (λ ms. sweep_on spans kept ms)) one kept (names_log name kept can.log) r h)
+
+    pub sweeps : (name : List ℕ) (words : List MachineWord) (spans : Bool) (kept : Log) (ms : List MachineOf) (a : Answer)
+        → CanSweep files name words kept ms → IsAnswer files (Some (sweep name words spans)) a → IsSwept spans kept ms a
+    sweeps name words spans kept ms a can is = is_sweep spans kept ms is.reply a (sweeps_on name words spans kept ms is.reply can is.is_reply) is.is_answer
 
 -- what holds of each answer holds of the one that was written
 module _ (files : Files) (asked : Option Asked) (P : Answer → Type 0) (each : (a : Answer) → IsAnswer files asked a → P a) (old new : Outside) where

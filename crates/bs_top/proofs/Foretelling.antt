@@ -1,5 +1,5 @@
 -- What comes of the text of a log on a machine, from its steps.
-use Rattle.std.proofs.Common.{◌≡◌, ℕ, List, refl, Option, None, Some, Result, Ok, Err}
+use Rattle.std.proofs.Common.{◌≡◌, ℕ, Bool, List, refl, Option, None, Some, Result, Ok, Err}
 use Rattle.bs_desk.specs.Outside.{Files}
 use Rattle.bs_log.specs.declared.log.Log.{Log}
 use Rattle.bs_logread.specs.Fault.{IsRefusal}
@@ -18,12 +18,14 @@ use Rattle.bs_top.specs.commands.Journal.{journaled, journaled_on}
 use Rattle.bs_top.specs.Answer.{reply_to}
 use Rattle.bs_top.specs.commands.Chain.{chain_on, chained}
 use Rattle.bs_top.specs.commands.Trace.{trace_on, traced}
+use Rattle.bs_top.specs.commands.Tune.{tune_on, tuned}
 use Rattle.bs_top.specs.Waves.{within}
 use Rattle.bs_top.specs.Seen.{said_of}
 use Rattle.bs_top.specs.Step.{Said, Step, Told, and_then}
 use Rattle.bs_top.specs.Stopped.{stopped_for_log}
 use Rattle.bs_words.specs.Machine.{MachineWord}
-use Rattle.bs_top.specs.Words.{chain, predict, trace}
+use Rattle.bs_words.specs.declared.tuning.Tuning.{Tuning}
+use Rattle.bs_top.specs.Words.{chain, predict, trace, tune}
 use Rattle.bs_top.proofs.Machines.{items}
 use Rattle.bs_top.proofs.Simulating.{this_log}
 use Rattle.bs_top.proofs.AsModel.{nothing, stopped_at}
@@ -49,6 +51,10 @@ module _ (kept : Log) (m : MachineOf) where
   pub unfit_chain : (stop : Stopped) → Told (λ (f : Fitted). tt) (fits kept.chares m) (Err stop) → Told said_of (chained kept m) (Err stop)
   unfolding chained
   unfit_chain stop h = stops (λ (f : Fitted). tt) said_of (fits kept.chares m) (λ _. chain_on kept m) stop h
+
+  pub unfit_tune : (tuning : Tuning) (spans : Bool) (stop : Stopped) → Told (λ (f : Fitted). tt) (fits kept.chares m) (Err stop) → Told said_of (tuned tuning spans kept m) (Err stop)
+  unfolding tuned
+  unfit_tune tuning spans stop h = stops (λ (f : Fitted). tt) said_of (fits kept.chares m) (λ _. tune_on tuning spans kept m) stop h
 
   pub unfit_trace : (stop : Stopped) → Told (λ (f : Fitted). tt) (fits kept.chares m) (Err stop) → Told said_of (traced kept m) (Err stop)
   unfolding traced
@@ -91,6 +97,10 @@ module _ (kept : Log) (m : MachineOf) where
     unfolding chained
     chains said is = (tt, fit, is)
 
+    pub tunes : (tuning : Tuning) (spans : Bool) (said : Said) → tune_on tuning spans kept m (Ok said) → tuned tuning spans kept m (Ok said)
+    unfolding tuned
+    tunes tuning spans said is = (tt, fit, is)
+
 -- the log of a file and the machine of a word, and what comes of both
 abbrev pub on_log_and : Files → List ℕ → MachineWord → (Log → MachineOf → Step Said) → Step Said
 on_log_and files name word next = and_then (log_named files name) (λ kept. and_then (machine_named files word) (λ m. next kept m))
@@ -126,6 +136,10 @@ module _ (files : Files) (name : List ℕ) where
   pub told_chain : (word : MachineWord) (r : Result Reply Stopped) → Told said_of (on_log_and files name word chained) r → Told said_of (reply_to files (Some (chain name word))) r
   unfolding reply_to
   told_chain word r h = h
+
+  pub told_tune : (word : MachineWord) (tuning : Tuning) (spans : Bool) (r : Result Reply Stopped) → Told said_of (on_log_and files name word (tuned tuning spans)) r → Told said_of (reply_to files (Some (tune name word tuning spans))) r
+  unfolding reply_to
+  told_tune word tuning spans r h = h
 
   pub told_trace : (word : MachineWord) (r : Result Reply Stopped) → Told said_of (on_log_and files name word traced) r → Told said_of (reply_to files (Some (trace name word))) r
   unfolding reply_to

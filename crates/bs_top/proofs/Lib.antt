@@ -10,6 +10,8 @@ mod Replying
 mod Told
 mod Causing
 mod Counting
+mod Sweeping
+mod Pointed
 mod OneStep
 mod OneMachine
 mod OneAnswer

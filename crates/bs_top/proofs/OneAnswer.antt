@@ -1,5 +1,5 @@
 -- A command has one answer: each of its steps gives one thing at most.
-use Rattle.std.proofs.Common.{◌≡◌, ℕ, List, length, refl, sym, ap, ◌∙◌, subst, Option, Some, None, Ok, Err}
+use Rattle.std.proofs.Common.{◌≡◌, ℕ, List, [], ◌∷◌, ◌++◌, length, refl, sym, ap, ◌∙◌, subst, Option, Some, None, Ok, Err}
 use Rattle.std.specs.FinMap as map
 use Rattle.bs_desk.specs.Outside.{Files}
 use Rattle.bs_check.specs.Refusal.{Broken, IsRefused, refusal}
@@ -17,7 +17,7 @@ use Rattle.bs_tree.specs.declared.tree.Program.{Program}
 use Rattle.bs_top.specs.declared.stopped.Stopped.TheVariants.{Refused}
 use Rattle.bs_top.specs.Answer.{Answer, IsAnswer, answer_of, reply_to}
 use Rattle.bs_top.specs.Reports.{IsOutcomeOn, IsReport, outcome_on, reported, serial_run}
-use Rattle.bs_top.specs.Inputs.{accepted, checked, contents, file_limit, fits, log_limit, log_named, machine_named, or_bad_machine, program_in, whole}
+use Rattle.bs_top.specs.Inputs.{accepted, checked, contents, file_limit, fits, fitting_machine, log_limit, log_named, machine_named, machines_behind, or_bad_machine, program_in, whole}
 use Rattle.bs_top.specs.commands.Predict.{predicted_with}
 use Rattle.bs_top.specs.Verdicts.{if_clean, judged, log_if_clean, logged}
 use Rattle.bs_top.specs.commands.Emulate.{kept_in}
@@ -26,17 +26,19 @@ use Rattle.bs_top.specs.commands.Check.{printed}
 use Rattle.bs_top.specs.commands.Run.{by_log, ran}
 use Rattle.bs_top.specs.commands.Model.{simulated}
 use Rattle.bs_top.specs.commands.Chain.{chained}
+use Rattle.bs_top.specs.commands.Sweep.{sweep_on}
 use Rattle.bs_top.specs.commands.Trace.{traced}
 use Rattle.bs_top.specs.commands.Trial.{trial_limit, tried, tried_as}
+use Rattle.bs_top.specs.commands.Tune.{tuned}
 use Rattle.bs_top.specs.Waves.{within}
 use Rattle.bs_top.specs.Step.{Said, Step, and_then, gives}
-use Rattle.bs_top.specs.Words.{Asked, check as check_asked, model, emulate, run, predict, trace, chain, gen, trial}
+use Rattle.bs_top.specs.Words.{Asked, check as check_asked, model, emulate, run, predict, trace, chain, sweep, tune, gen, trial}
 use Rattle.bs_gen.specs.Programs.{workload_text}
 use Rattle.bs_words.specs.Machine.{MachineWord, flat, file}
 use Rattle.bs_words.specs.declared.generated.Generated.{Generated}
 use Rattle.bs_top.specs.Known.{Known}
 use Rattle.bs_top.proofs.OneMachine.{one_machine}
-use Rattle.bs_top.proofs.OneLog.{one_chained, one_foretold, one_log, one_traced, one_within, valid_log}
+use Rattle.bs_top.proofs.OneLog.{one_chained, one_foretold, one_log, one_sweep, one_traced, one_tuned, one_within, valid_log}
 use Rattle.bs_top.proofs.Simulating.{histories_of}
 use Rattle.bs_top.proofs.OneStep.{IsOne, one_after, one_given, one_where}
 
@@ -52,6 +54,19 @@ one_named files (file name) = one_after (contents file_limit files name) (λ byt
 pub one_fit : (chares : ℕ) (m : MachineOf) → IsOne (fits chares m)
 unfolding fits
 one_fit chares m r s a b = sym a ∙ b
+
+one_fitting : (files : Files) (chares : ℕ) (word : MachineWord) → IsOne (fitting_machine files chares word)
+unfolding fitting_machine
+one_fitting files chares word =
+    one_after (machine_named files word) (λ m. and_then (fits chares m) (λ _. gives (Ok m))) (one_named files word)
+    (λ m. one_after (fits chares m) (λ _. gives (Ok m)) (one_fit chares m) (λ _. one_given (Ok m)))
+
+pub one_machines : (files : Files) (chares : ℕ) (words : List MachineWord) (before : List MachineOf) → IsOne (machines_behind before files chares words)
+unfolding machines_behind
+one_machines files chares [] before = one_given (Ok before)
+one_machines files chares (word ∷ words) before =
+    one_after (fitting_machine files chares word) (λ m. machines_behind (before ++ m ∷ []) files chares words) (one_fitting files chares word)
+    (λ m. one_machines files chares words (before ++ m ∷ []))
 
 outcome_is : (o q : Outcome) → timed o ≡ timed q → o ≡ q
 outcome_is o q e = cc
@@ -176,6 +191,12 @@ module _ (known : Known) where
   one_reply files (Some (chain name word)) =
       one_where (log_named files name) (λ kept. and_then (machine_named files word) (λ m. chained kept m)) (one_log known.logs files name (one_contents log_limit files name))
       (λ kept is. one_after (machine_named files word) (λ m. chained kept m) (one_named files word) (λ m. one_chained known.logs kept (valid_log files name kept is) m (one_fit kept.chares m)))
+  one_reply files (Some (sweep name words spans)) =
+      one_where (log_named files name) (λ kept. and_then (machines_behind [] files kept.chares words) (λ ms. sweep_on spans kept ms)) (one_log known.logs files name (one_contents log_limit files name))
+      (λ kept is. one_after (machines_behind [] files kept.chares words) (λ ms. sweep_on spans kept ms) (one_machines files kept.chares words []) (λ ms. one_sweep known.logs kept (valid_log files name kept is) spans ms))
+  one_reply files (Some (tune name word tuning spans)) =
+      one_where (log_named files name) (λ kept. and_then (machine_named files word) (λ m. tuned tuning spans kept m)) (one_log known.logs files name (one_contents log_limit files name))
+      (λ kept is. one_after (machine_named files word) (λ m. tuned tuning spans kept m) (one_named files word) (λ m. one_tuned known.logs kept (valid_log files name kept is) m (one_fit kept.chares m) tuning spans))
   one_reply files (Some (gen program)) = one_given (Ok (generated program))
   one_reply files (Some (trial program)) = one_tried program
 

@@ -1,5 +1,5 @@
--- A text is that of one log at most, or has one first fault, and a log has one prediction on a machine, one journal and one
--- trace.
+-- A text is that of one log at most, or has one first fault, and a log has one prediction on a machine, one journal, one
+-- trace, one chain and one text of its points.
 use Rattle.std.proofs.Common.{◌≡◌, ◌≤◌, ◌<◌, ◌+◌, ℕ, Bool, true, false, List, [], ◌∷◌, length, refl, sym, ap, ap₂, ◌∙◌, subst, inl, inr, Option, None, Some, Ok, Err, arith}
 use Rattle.bs_desk.specs.Outside.{Files}
 use Rattle.bs_line.specs.declared.corrections.Correction.{Correction}
@@ -11,7 +11,8 @@ use Rattle.bs_logread.specs.Fault.{IsFault}
 use Rattle.bs_logread.specs.declared.fault.LogFault.{LogFault}
 use Rattle.bs_logread.specs.declared.fault.LogFault.TheVariants as read
 use Rattle.bs_logtext.specs.Text.{log_text}
-use Rattle.bs_machine.specs.Machine.{MachineOf}
+use Rattle.bs_machine.specs.Machine.{MachineOf, machine_view}
+use Rattle.bs_machine.specs.declared.fitted.Fitted.{Fitted}
 use Rattle.bs_report.specs.declared.faults.Fault.TheVariants as fault
 use Rattle.bs_report.specs.Fault.{fault_text}
 use Rattle.bs_report.specs.Trace.{trace_text}
@@ -33,7 +34,13 @@ use Rattle.bs_top.specs.commands.Predict.{predicted_with, predicted}
 use Rattle.bs_top.specs.commands.Journal.{journal_in, journaled, journaled_on}
 use Rattle.bs_path.specs.Chain.{IsCritical}
 use Rattle.bs_top.specs.commands.Chain.{chain_on, chain_said, chained}
+use Rattle.bs_top.specs.commands.Points.{IsTextOf, points_said}
+use Rattle.bs_top.specs.commands.Sweep.{sweep_on, views}
 use Rattle.bs_top.specs.commands.Trace.{trace_on, traced}
+use Rattle.bs_top.specs.commands.Tune.{tune_on, tuned as tuning_on}
+use Rattle.bs_whatif.specs.Figures.{AreFitted, swept, tuned}
+use Rattle.bs_whatif.specs.Rescaled.{IsFraction, rescaled}
+use Rattle.bs_words.specs.declared.tuning.Tuning.{Tuning}
 use Rattle.bs_top.specs.Targets.{errors, output}
 use Rattle.bs_top.specs.Step.{Said, and_then}
 use Rattle.bs_top.specs.Known.{LogLaws}
@@ -54,6 +61,12 @@ traced_said kept machine starts = record { ending = Run (log.end_of kept); note 
 starts_same : (s z : Starts) (k : ℕ) (rows : List Row) → ((i : ℕ) → k ≤ i → i < k + length rows → s i ≡ z i) → starts_from s k rows ≡ starts_from z k rows
 starts_same s z k [] same = refl
 starts_same s z k (r ∷ rs) same = ap₂ (λ x xs. x ∷ xs) (same k (omega arith) (omega arith)) (starts_same s z (k + 1) rs (λ i low high. same i (omega (arith, low)) (omega (arith, high))))
+
+first_same : {x y : MachineOf} {xs ys : List MachineOf} → x ∷ xs ≡ y ∷ ys → x ≡ y
+first_same e = cc
+
+rest_same : {x y : MachineOf} {xs ys : List MachineOf} → x ∷ xs ≡ y ∷ ys → xs ≡ ys
+rest_same e = cc
 
 module _ (laws : LogLaws) where
   -- a text that has a fault is no valid log's
@@ -160,6 +173,19 @@ module _ (laws : LogLaws) where
     one_chain (Ok a) (Err s) h k = absurd k
     one_chain (Err r) s h k = absurd h
 
+    one_tuned_text : (spans : Bool) (f : Fitted) (t : Tuning) → IsFraction t.num t.den → (a b : List ℕ) → IsTextOf spans (tuned kept f t.stmt t.num t.den) a → IsTextOf spans (tuned kept f t.stmt t.num t.den) b → a ≡ b
+    one_tuned_text true f t fraction a b h k = laws.tuned_spans kept f t.stmt t.num t.den valid fraction a b h k
+    one_tuned_text false f t fraction a b h k = laws.tuned_points kept f t.stmt t.num t.den valid fraction a b h k
+
+    one_tune : (t : Tuning) (spans : Bool) → IsOne (tune_on t spans kept m)
+    one_tune t spans (Ok a) (Ok b) h k =
+        let machine = one_machine k.fitted h.fitted (k.is_machine ∙ sym h.is_machine) (k.is_fitted ∙ sym h.is_fitted) in
+        let nets : tuned kept k.fitted t.stmt t.num t.den ≡ tuned kept h.fitted t.stmt t.num t.den = ap (λ m. net_of kept m ∷ net_of (rescaled kept t.stmt t.num t.den) m ∷ []) machine in
+        let text = one_tuned_text spans h.fitted t h.is_fraction h.text k.text h.is_text (subst (λ nets. IsTextOf spans nets k.text) nets k.is_text) in
+        ap (λ s. Ok s) (h.is_said ∙ ap (points_said kept) text ∙ sym k.is_said)
+    one_tune t spans (Ok a) (Err s) h k = absurd k
+    one_tune t spans (Err r) s h k = absurd h
+
     module _ (one : IsOne (fits kept.chares m)) where
       one_predicted : (waves : Option ℕ) → IsOne (predicted waves kept m)
       unfolding predicted
@@ -181,6 +207,31 @@ module _ (laws : LogLaws) where
       pub one_chained : IsOne (chained kept m)
       unfolding chained
       one_chained = one_after (fits kept.chares m) (λ _. chain_on kept m) one (λ _. one_chain)
+
+      pub one_tuned : (t : Tuning) (spans : Bool) → IsOne (tuning_on t spans kept m)
+      unfolding tuning_on
+      one_tuned t spans = one_after (fits kept.chares m) (λ _. tune_on t spans kept m) one (λ _. one_tune t spans)
+
+  module _ (kept : Log) (valid : IsValid kept) where
+    same_nets : (fs gs : List Fitted) → views fs ≡ views gs → AreFitted kept fs → AreFitted kept gs → swept kept fs ≡ swept kept gs
+    same_nets [] [] e h k = refl
+    same_nets [] (g ∷ gs) e h k = absurd (cc)
+    same_nets (f ∷ fs) [] e h k = absurd (cc)
+    same_nets (f ∷ fs) (g ∷ gs) e h k =
+        let machine = one_machine f g (first_same e) (h f (inl refl) ∙ sym (k g (inl refl))) in
+        ap₂ (λ net nets. net ∷ nets) (ap (net_of kept) machine) (same_nets fs gs (rest_same e) (λ x m. h x (inr m)) (λ x m. k x (inr m)))
+
+    one_swept_text : (spans : Bool) (fs : List Fitted) (a b : List ℕ) → IsTextOf spans (swept kept fs) a → IsTextOf spans (swept kept fs) b → a ≡ b
+    one_swept_text true fs a b h k = laws.spans kept fs valid a b h k
+    one_swept_text false fs a b h k = laws.points kept fs valid a b h k
+
+    pub one_sweep : (spans : Bool) (machines : List MachineOf) → IsOne (sweep_on spans kept machines)
+    one_sweep spans machines (Ok a) (Ok b) h k =
+        let nets = same_nets k.fitted h.fitted (k.are_machines ∙ sym h.are_machines) k.are_fitted h.are_fitted in
+        let text = one_swept_text spans h.fitted h.text k.text h.is_text (subst (λ nets. IsTextOf spans nets k.text) nets k.is_text) in
+        ap (λ s. Ok s) (h.is_said ∙ ap (points_said kept) text ∙ sym k.is_said)
+    one_sweep spans machines (Ok a) (Err s) h k = absurd k
+    one_sweep spans machines (Err r) s h k = absurd h
 
 -- the log of a file is valid
 pub valid_log : (files : Files) (name : List ℕ) (kept : Log) → log_named files name (Ok kept) → IsValid kept

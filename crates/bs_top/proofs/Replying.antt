@@ -26,7 +26,7 @@ use Rattle.bs_top.specs.declared.asked.Asked.{Asked as AskedFor}
 use Rattle.bs_top.specs.Seen.{asked_of, said_of}
 use Rattle.bs_top.specs.Step.{Said, Step, Told, and_then, gives}
 use Rattle.bs_top.specs.Stopped.{stopped_for_words}
-use Rattle.bs_top.specs.Words.{Asked, check, model, emulate, run, predict, trace, chain, gen, trial, built}
+use Rattle.bs_top.specs.Words.{Asked, check, model, emulate, run, predict, trace, chain, sweep, tune, gen, trial, built}
 use Rattle.bs_words.specs.Machine.{MachineWord}
 use Rattle.bs_words.specs.declared.generated.Generated.{Generated}
 use Rattle.bs_tree.specs.declared.tree.Program.{Program}
@@ -49,6 +49,8 @@ AsksFor name (run n word limit waves) = name ≡ n
 AsksFor name (predict n word waves journal) = ⊥
 AsksFor name (trace n word) = ⊥
 AsksFor name (chain n word) = ⊥
+AsksFor name (sweep n words spans) = ⊥
+AsksFor name (tune n word tuning spans) = ⊥
 AsksFor name (gen program) = ⊥
 AsksFor name (trial program) = ⊥
 
@@ -93,6 +95,8 @@ module _ (files : Files) (name : List ℕ) where
   not_accepted (predict n word waves journal) stop is h = absurd is
   not_accepted (trace n word) stop is h = absurd is
   not_accepted (chain n word) stop is h = absurd is
+  not_accepted (sweep n words spans) stop is h = absurd is
+  not_accepted (tune n word tuning spans) stop is h = absurd is
   not_accepted (gen program) stop is h = absurd is
   not_accepted (trial program) stop is h = absurd is
 

@@ -1,7 +1,7 @@
 -- A command has an answer: each of its steps gives something.
-use Rattle.std.proofs.Common.{◌≡◌, ◌≤◌, ◌+◌, ◌*◌, ◌^◌, ◌⊎◌, ℕ, Bool, true, false, if◌then◌else◌, List, [], ◌∷◌, length, Option, Some, None, Result, Ok, Err, inl, inr, refl, sym, ap, subst, ◌∙◌, arith}
+use Rattle.std.proofs.Common.{◌≡◌, ◌≤◌, ◌+◌, ◌*◌, ◌^◌, ◌⊎◌, ℕ, Bool, true, false, if◌then◌else◌, List, [], ◌∷◌, ◌++◌, length, map, Option, Some, None, Result, Ok, Err, inl, inr, refl, sym, ap, subst, ◌∙◌, arith}
 use Rattle.std.specs.Prelude.{IsTrue, option_and_then, option_map}
-use Rattle.std.specs.FinMap as map
+use Rattle.std.specs.FinMap as files_map
 use Rattle.bs_check.specs.Refusal.{Broken, refusal}
 use Rattle.bs_check.specs.declared.fault.CheckFault.TheVariants as check
 use Rattle.bs_desk.specs.Outside.{Files}
@@ -35,19 +35,21 @@ use Rattle.bs_tree.specs.declared.tree.Program.{Program}
 use Rattle.bs_gen.specs.Programs.{workload_text}
 use Rattle.bs_words.specs.Generated.{asked_program}
 use Rattle.bs_words.specs.Machine.{MachineWord, file, flat, machine_word}
+use Rattle.bs_words.specs.Tuning.{IsTuning, asked_tuning}
 use Rattle.bs_words.specs.Parts.{command_in}
 use Rattle.bs_words.specs.declared.command.Command.{Command}
 use Rattle.bs_words.specs.declared.generated.Generated.{Generated}
+use Rattle.bs_words.specs.declared.tuning.Tuning.{Tuning}
 use Rattle.bs_words.specs.declared.verb.Verb.{Verb}
-use Rattle.bs_words.specs.declared.verb.Verb.TheVariants.{Chain, Check, Emulate, Gen, Model, Predict, Run, Trace, Trial}
+use Rattle.bs_words.specs.declared.verb.Verb.TheVariants.{Chain, Check, Emulate, Gen, Model, Predict, Run, Sweep, Trace, Trial, Tune}
 use Rattle.bs_top.specs.Answer.{Answer, IsAnswer, answer_of, reply_to}
-use Rattle.bs_top.specs.Inputs.{accepted, checked, contents, file_limit, fits, log_in, log_limit, log_named, machine_named, or_bad_machine, program_in, whole}
+use Rattle.bs_top.specs.Inputs.{accepted, checked, contents, file_limit, fits, fitting_machine, log_in, log_limit, log_named, machine_named, machines_behind, or_bad_machine, program_in, whole}
 use Rattle.bs_top.specs.Known.{Known, SomeLaws}
 use Rattle.bs_top.specs.Reports.{IsPrediction, outcome_on, reported, serial_run, timed_on}
 use Rattle.bs_top.specs.Step.{Said, Step, and_then, gives}
 use Rattle.bs_top.specs.Verdicts.{if_clean, judged, log_if_clean, logged}
 use Rattle.bs_top.specs.Waves.{IsNetOn, most_waves, no_ticks, within}
-use Rattle.bs_top.specs.Words.{AreWaves, Asked, asked_by, asked_with, built, chain, check as check_asked, emulate, gen, model, predict, run, trace, trial}
+use Rattle.bs_top.specs.Words.{AreWaves, Asked, asked_by, asked_with, built, chain, check as check_asked, emulate, gen, model, predict, run, sweep, trace, trial, tune, words_of}
 use Rattle.bs_top.specs.commands.Check.{printed}
 use Rattle.bs_top.specs.commands.Emulate.{kept_in}
 use Rattle.bs_top.specs.commands.Journal.{journaled, journaled_on}
@@ -56,14 +58,22 @@ use Rattle.bs_top.specs.commands.Predict.{predicted, predicted_with}
 use Rattle.bs_top.specs.commands.Gen.{generated}
 use Rattle.bs_top.specs.commands.Run.{by_log, ran}
 use Rattle.bs_top.specs.commands.Chain.{chain_on, chained}
+use Rattle.bs_top.specs.commands.Points.{IsTextOf, points_said}
+use Rattle.bs_top.specs.commands.Sweep.{sweep_on, views}
 use Rattle.bs_top.specs.commands.Trace.{trace_on, traced}
+use Rattle.bs_top.specs.commands.Tune.{tune_on, tuned as tuning_on}
+use Rattle.bs_top.specs.Seen.{AreFittedTo}
+use Rattle.bs_whatif.specs.Figures.{swept, tuned}
+use Rattle.bs_whatif.specs.Rescaled.{IsFraction}
 use Rattle.bs_top.specs.commands.Trial.{trial_limit, tried, tried_as}
 use Rattle.bs_top.specs.declared.stopped.Stopped.{Stopped}
 use Rattle.bs_top.specs.declared.stopped.Stopped.TheVariants.{Refused}
 use Rattle.bs_top.proofs.AsModel.{verdict_count}
-use Rattle.bs_top.proofs.Limits.{waves_of}
+use Rattle.bs_top.proofs.Limits.{tuning_is, waves_of}
 use Rattle.bs_top.proofs.OneLog.{valid_log}
+use Rattle.bs_top.proofs.Pointed.{IsFraction-of_tuning}
 use Rattle.bs_top.proofs.Simulating.{histories_of, log_by_judged}
+use Rattle.bs_top.proofs.Sweeping.{Fits, all_fitted}
 
 -- the step gives something
 abbrev Gives : {A : Type 0} → Step A → Type 0
@@ -86,7 +96,7 @@ some_after {A} {B} first next given on = by given.0 given.1
 
 some_contents : (most : ℕ) (files : Files) (name : List ℕ) → Gives (contents most files name)
 unfolding contents
-some_contents most files name = some_given (whole most (map.get files name))
+some_contents most files name = some_given (whole most (files_map.get files name))
 
 some_named : (files : Files) (word : MachineWord) → Gives (machine_named files word)
 unfolding machine_named
@@ -96,6 +106,19 @@ some_named files (file name) = some_after (contents file_limit files name) (λ b
 some_fit : (chares : ℕ) (m : MachineOf) → Gives (fits chares m)
 unfolding fits
 some_fit chares m = some_given (if has_length m.place chares then Ok tt else Err (Refused (fault.BadPlace (record { given = homes_in m.place; needed = chares }))))
+
+some_fitting : (files : Files) (chares : ℕ) (word : MachineWord) → Gives (fitting_machine files chares word)
+unfolding fitting_machine
+some_fitting files chares word =
+    some_after (machine_named files word) (λ m. and_then (fits chares m) (λ _. gives (Ok m))) (some_named files word)
+    (λ m is. some_after (fits chares m) (λ _. gives (Ok m)) (some_fit chares m) (λ _ is. some_given (Ok m)))
+
+some_machines : (files : Files) (chares : ℕ) (words : List MachineWord) (before : List MachineOf) → Gives (machines_behind before files chares words)
+unfolding machines_behind
+some_machines files chares [] before = some_given (Ok before)
+some_machines files chares (word ∷ words) before =
+    some_after (fitting_machine files chares word) (λ m. machines_behind (before ++ m ∷ []) files chares words) (some_fitting files chares word)
+    (λ m is. some_machines files chares words (before ++ m ∷ []))
 
 checked_by : (p : Program) (o : Option Broken) → refusal p ≡ o → Gives (checked p)
 unfolding checked
@@ -143,7 +166,7 @@ FittedTo m chares = (f : Fitted) × (machine_view f.machine ≡ m) × (f.chares 
 abbrev CanFit : MachineOf → ℕ → Type 0
 CanFit m chares = fits chares m (Ok tt) → FittedTo m chares
 
--- the number of waves that is asked for
+-- the number of waves, or the numbers of a tuning, that is asked for
 abbrev HasWaves : Option Asked → Type 0
 HasWaves None = Unit {0}
 HasWaves (Some (check_asked name)) = Unit {0}
@@ -153,6 +176,8 @@ HasWaves (Some (run name word limit waves)) = AreWaves waves
 HasWaves (Some (predict name word waves journal)) = AreWaves waves
 HasWaves (Some (trace name word)) = Unit {0}
 HasWaves (Some (chain name word)) = Unit {0}
+HasWaves (Some (sweep name words spans)) = Unit {0}
+HasWaves (Some (tune name word tuning spans)) = IsTuning tuning
 HasWaves (Some (gen program)) = Unit {0}
 HasWaves (Some (trial program)) = Unit {0}
 
@@ -160,51 +185,72 @@ mapped : {A : Type 0} (f : A → Asked) (o : Option A) → ((a : A) → HasWaves
 mapped f None h = tt
 mapped f (Some m) h = h m
 
-with_waves : (limit : ℕ) (waves : Option ℕ) (journal : Option (List ℕ)) (verb : Verb) (names : List (List ℕ)) → AreWaves waves → HasWaves (asked_with limit waves journal verb names)
-with_waves limit waves journal Check [] w = tt
-with_waves limit waves journal Check (a ∷ []) w = tt
-with_waves limit waves journal Check (a ∷ b ∷ cs) w = tt
-with_waves limit waves journal Model [] w = tt
-with_waves limit waves journal Model (a ∷ []) w = tt
-with_waves limit waves journal Model (a ∷ b ∷ []) w = mapped (λ m. model a m limit) (machine_word b) (λ m. tt)
-with_waves limit waves journal Model (a ∷ b ∷ c ∷ ds) w = tt
-with_waves limit waves journal Emulate [] w = tt
-with_waves limit waves journal Emulate (a ∷ []) w = tt
-with_waves limit waves journal Emulate (a ∷ b ∷ []) w = tt
-with_waves limit waves journal Emulate (a ∷ b ∷ c ∷ ds) w = tt
-with_waves limit waves journal Run [] w = tt
-with_waves limit waves journal Run (a ∷ []) w = tt
-with_waves limit waves journal Run (a ∷ b ∷ []) w = mapped (λ m. run a m limit waves) (machine_word b) (λ m. w)
-with_waves limit waves journal Run (a ∷ b ∷ c ∷ ds) w = tt
-with_waves limit waves journal Predict [] w = tt
-with_waves limit waves journal Predict (a ∷ []) w = tt
-with_waves limit waves journal Predict (a ∷ b ∷ []) w = mapped (λ m. predict a m waves journal) (machine_word b) (λ m. w)
-with_waves limit waves journal Predict (a ∷ b ∷ c ∷ ds) w = tt
-with_waves limit waves journal Trace [] w = tt
-with_waves limit waves journal Trace (a ∷ []) w = tt
-with_waves limit waves journal Trace (a ∷ b ∷ []) w = mapped (trace a) (machine_word b) (λ m. tt)
-with_waves limit waves journal Trace (a ∷ b ∷ c ∷ ds) w = tt
-with_waves limit waves journal Chain [] w = tt
-with_waves limit waves journal Chain (a ∷ []) w = tt
-with_waves limit waves journal Chain (a ∷ b ∷ []) w = mapped (chain a) (machine_word b) (λ m. tt)
-with_waves limit waves journal Chain (a ∷ b ∷ c ∷ ds) w = tt
-with_waves limit waves journal Gen [] w = tt
-with_waves limit waves journal Gen (a ∷ []) w = tt
-with_waves limit waves journal Gen (a ∷ b ∷ []) w = tt
-with_waves limit waves journal Gen (a ∷ b ∷ c ∷ []) w = mapped gen (asked_program a b c) (λ g. tt)
-with_waves limit waves journal Gen (a ∷ b ∷ c ∷ d ∷ es) w = tt
-with_waves limit waves journal Trial [] w = tt
-with_waves limit waves journal Trial (a ∷ []) w = tt
-with_waves limit waves journal Trial (a ∷ b ∷ []) w = tt
-with_waves limit waves journal Trial (a ∷ b ∷ c ∷ []) w = mapped trial (asked_program a b c) (λ g. tt)
-with_waves limit waves journal Trial (a ∷ b ∷ c ∷ d ∷ es) w = tt
+-- the same where it is known what the thing came of
+mapped_with : {A : Type 0} (f : A → Asked) (o : Option A) → ((a : A) → o ≡ Some a → HasWaves (Some (f a))) → HasWaves (option_map f o)
+mapped_with f None h = tt
+mapped_with f (Some a) h = h a refl
+
+then_with : {A : Type 0} (f : A → Option Asked) (o : Option A) → ((a : A) → HasWaves (f a)) → HasWaves (option_and_then f o)
+then_with f None h = tt
+then_with f (Some a) h = h a
+
+with_waves : (limit : ℕ) (waves : Option ℕ) (journal : Option (List ℕ)) (spans : Bool) (verb : Verb) (names : List (List ℕ)) → AreWaves waves → HasWaves (asked_with limit waves journal spans verb names)
+with_waves limit waves journal spans Check [] w = tt
+with_waves limit waves journal spans Check (a ∷ []) w = tt
+with_waves limit waves journal spans Check (a ∷ b ∷ cs) w = tt
+with_waves limit waves journal spans Model [] w = tt
+with_waves limit waves journal spans Model (a ∷ []) w = tt
+with_waves limit waves journal spans Model (a ∷ b ∷ []) w = mapped (λ m. model a m limit) (machine_word b) (λ m. tt)
+with_waves limit waves journal spans Model (a ∷ b ∷ c ∷ ds) w = tt
+with_waves limit waves journal spans Emulate [] w = tt
+with_waves limit waves journal spans Emulate (a ∷ []) w = tt
+with_waves limit waves journal spans Emulate (a ∷ b ∷ []) w = tt
+with_waves limit waves journal spans Emulate (a ∷ b ∷ c ∷ ds) w = tt
+with_waves limit waves journal spans Run [] w = tt
+with_waves limit waves journal spans Run (a ∷ []) w = tt
+with_waves limit waves journal spans Run (a ∷ b ∷ []) w = mapped (λ m. run a m limit waves) (machine_word b) (λ m. w)
+with_waves limit waves journal spans Run (a ∷ b ∷ c ∷ ds) w = tt
+with_waves limit waves journal spans Predict [] w = tt
+with_waves limit waves journal spans Predict (a ∷ []) w = tt
+with_waves limit waves journal spans Predict (a ∷ b ∷ []) w = mapped (λ m. predict a m waves journal) (machine_word b) (λ m. w)
+with_waves limit waves journal spans Predict (a ∷ b ∷ c ∷ ds) w = tt
+with_waves limit waves journal spans Trace [] w = tt
+with_waves limit waves journal spans Trace (a ∷ []) w = tt
+with_waves limit waves journal spans Trace (a ∷ b ∷ []) w = mapped (trace a) (machine_word b) (λ m. tt)
+with_waves limit waves journal spans Trace (a ∷ b ∷ c ∷ ds) w = tt
+with_waves limit waves journal spans Chain [] w = tt
+with_waves limit waves journal spans Chain (a ∷ []) w = tt
+with_waves limit waves journal spans Chain (a ∷ b ∷ []) w = mapped (chain a) (machine_word b) (λ m. tt)
+with_waves limit waves journal spans Chain (a ∷ b ∷ c ∷ ds) w = tt
+with_waves limit waves journal spans Sweep [] w = tt
+with_waves limit waves journal spans Sweep (a ∷ []) w = tt
+with_waves limit waves journal spans Sweep (a ∷ b ∷ cs) w = mapped (λ m. sweep a (m ∷ words_of cs) spans) (machine_word b) (λ m. tt)
+with_waves limit waves journal spans Tune [] w = tt
+with_waves limit waves journal spans Tune (a ∷ []) w = tt
+with_waves limit waves journal spans Tune (a ∷ b ∷ []) w = tt
+with_waves limit waves journal spans Tune (a ∷ b ∷ c ∷ []) w = tt
+with_waves limit waves journal spans Tune (a ∷ b ∷ c ∷ d ∷ []) w = tt
+with_waves limit waves journal spans Tune (a ∷ b ∷ c ∷ d ∷ e ∷ []) w =
+    then_with (λ m. option_map (λ tuning. tune a m tuning spans) (asked_tuning c d e)) (machine_word b)
+    (λ m. mapped_with (λ tuning. tune a m tuning spans) (asked_tuning c d e) (λ tuning is. tuning_is c d e tuning is))
+with_waves limit waves journal spans Tune (a ∷ b ∷ c ∷ d ∷ e ∷ f ∷ gs) w = tt
+with_waves limit waves journal spans Gen [] w = tt
+with_waves limit waves journal spans Gen (a ∷ []) w = tt
+with_waves limit waves journal spans Gen (a ∷ b ∷ []) w = tt
+with_waves limit waves journal spans Gen (a ∷ b ∷ c ∷ []) w = mapped gen (asked_program a b c) (λ g. tt)
+with_waves limit waves journal spans Gen (a ∷ b ∷ c ∷ d ∷ es) w = tt
+with_waves limit waves journal spans Trial [] w = tt
+with_waves limit waves journal spans Trial (a ∷ []) w = tt
+with_waves limit waves journal spans Trial (a ∷ b ∷ []) w = tt
+with_waves limit waves journal spans Trial (a ∷ b ∷ c ∷ []) w = mapped trial (asked_program a b c) (λ g. tt)
+with_waves limit waves journal spans Trial (a ∷ b ∷ c ∷ d ∷ es) w = tt
 
 asked_waves : (words : List (List ℕ)) → HasWaves (asked_by words)
 asked_waves words = by (command_in words) refl
   where
     by : (o : Option Command) → command_in words ≡ o → HasWaves (option_and_then built o)
     by None is = tt
-    by (Some command) is = with_waves command.limit command.waves command.journal command.verb command.names (waves_of words command is)
+    by (Some command) is = with_waves command.limit command.waves command.journal command.spans command.verb command.names (waves_of words command is)
 
 some_waves : (waves : Option ℕ) (log : Log) → AreWaves waves → 1 ≤ most_waves waves log
 some_waves None log w = omega arith
@@ -387,6 +433,29 @@ module _ (known : Known) (some : SomeLaws) where
     unfolding chained
     some_chained = some_after (fits log.chares m) (λ _. chain_on log m) (some_fit log.chares m) (λ _ fitting. some_chain (fit fitting))
 
+    some_tuned_text : (spans : Bool) (f : Fitted) (t : Tuning) → IsFraction t.num t.den → (text : List ℕ) × IsTextOf spans (tuned log f t.stmt t.num t.den) text
+    some_tuned_text true f t fraction = some.tuned_spans log f t.stmt t.num t.den valid fraction
+    some_tuned_text false f t fraction = some.tuned_points log f t.stmt t.num t.den valid fraction
+
+    some_tune : (t : Tuning) (spans : Bool) → IsTuning t → FittedTo m log.chares → Gives (tune_on t spans log m)
+    some_tune t spans is f =
+        let fraction = IsFraction-of_tuning t is in
+        let text = some_tuned_text spans f.0 t fraction in
+        (Ok (points_said log text.0), record { fitted = f.0; text = text.0; is_machine = f.1; is_fitted = f.2; is_fraction = fraction; is_text = text.1; is_said = refl })
+
+    some_tuned : (t : Tuning) (spans : Bool) → IsTuning t → Gives (tuning_on t spans log m)
+    unfolding tuning_on
+    some_tuned t spans is = some_after (fits log.chares m) (λ _. tune_on t spans log m) (some_fit log.chares m) (λ _ fitting. some_tune t spans is (fit fitting))
+
+  some_swept_text : (log : Log) → IsValid log → (spans : Bool) (fs : List Fitted) → (text : List ℕ) × IsTextOf spans (swept log fs) text
+  some_swept_text log valid true fs = some.spans log fs valid
+  some_swept_text log valid false fs = some.points log fs valid
+
+  some_sweep : (log : Log) → IsValid log → (spans : Bool) (ms : List MachineOf) → Fits log.chares ms → Gives (sweep_on spans log ms)
+  some_sweep log valid spans ms fit =
+      let text = some_swept_text log valid spans fit.0 in
+      (Ok (points_said log text.0), record { fitted = fit.0; text = text.0; are_machines = fit.1; are_fitted = fit.2; is_text = text.1; is_said = refl })
+
   -- ---- commands
 
   program_fits : (files : Files) (name : List ℕ) (p : Program) → accepted files name (Ok p) → (word : MachineWord) (m : MachineOf) → machine_named files word (Ok m) → CanFit m p.chares
@@ -419,6 +488,14 @@ module _ (known : Known) (some : SomeLaws) where
   some_reply files (Some (chain name word)) w =
       some_after (log_named files name) (λ log. and_then (machine_named files word) (λ m. chained log m)) (some_log files name)
       (λ log is. some_after (machine_named files word) (λ m. chained log m) (some_named files word) (λ m named. some_chained log (valid_log files name log is) m (log_fits files name log is word m named)))
+  some_reply files (Some (sweep name words spans)) w =
+      some_after (log_named files name) (λ log. and_then (machines_behind [] files log.chares words) (λ ms. sweep_on spans log ms)) (some_log files name)
+      (λ log is. some_after (machines_behind [] files log.chares words) (λ ms. sweep_on spans log ms) (some_machines files log.chares words [])
+      (λ ms read. some_sweep log (valid_log files name log is) spans ms (all_fitted files log.chares (λ word m named. log_fits files name log is word m named) words [] ms read ([], refl, λ f m. absurd m))))
+  some_reply files (Some (tune name word tuning spans)) w =
+      some_after (log_named files name) (λ log. and_then (machine_named files word) (λ m. tuning_on tuning spans log m)) (some_log files name)
+      (λ log is. some_after (machine_named files word) (λ m. tuning_on tuning spans log m) (some_named files word)
+      (λ m named. some_tuned log (valid_log files name log is) m (log_fits files name log is word m named) tuning spans w))
   some_reply files (Some (gen program)) w = some_given (Ok (generated program))
   some_reply files (Some (trial program)) w = some_tried program
 

@@ -7,11 +7,11 @@ use Rattle.bs_report.specs.Fault.{fault_text}
 use Rattle.bs_report.specs.declared.faults.Fault.{Fault}
 use Rattle.bs_report.specs.declared.faults.Fault.TheVariants as fault
 use Rattle.bs_settle.specs.declared.settling.BudgetSpent.{BudgetSpent}
-use Rattle.bs_top.specs.Inputs.{machine_named, accepted, log_named}
+use Rattle.bs_top.specs.Inputs.{machine_named, machines_behind, accepted, log_named}
 use Rattle.bs_top.specs.Step.{Step, Said, gives, ◌>>=◌}
 use Rattle.bs_top.specs.Targets.{Note, TargetOf, errors}
 use Rattle.bs_top.specs.Verdicts.{logged}
-use Rattle.bs_top.specs.Words.{Asked, check, model, emulate, run, predict, trace, chain, gen, trial}
+use Rattle.bs_top.specs.Words.{Asked, check, model, emulate, run, predict, trace, chain, sweep, tune, gen, trial}
 use Rattle.bs_top.specs.commands.Chain.{chained}
 use Rattle.bs_top.specs.commands.Check.{printed}
 use Rattle.bs_top.specs.commands.Emulate.{kept_in}
@@ -19,8 +19,10 @@ use Rattle.bs_top.specs.commands.Gen.{generated}
 use Rattle.bs_top.specs.commands.Model.{simulated}
 use Rattle.bs_top.specs.commands.Predict.{predicted_with}
 use Rattle.bs_top.specs.commands.Run.{ran}
+use Rattle.bs_top.specs.commands.Sweep.{sweep_on}
 use Rattle.bs_top.specs.commands.Trace.{traced}
 use Rattle.bs_top.specs.commands.Trial.{tried}
+use Rattle.bs_top.specs.commands.Tune.{tuned}
 use Rattle.bs_top.specs.declared.reply.Ending.{Ending}
 use Rattle.bs_top.specs.declared.reply.Ending.TheVariants.{Run, Spent}
 use Rattle.bs_top.specs.declared.status.Status.{Status}
@@ -58,6 +60,14 @@ reply_to files (Some (chain name word)) = do
   kept ← log_named files name
   machine ← machine_named files word
   chained kept machine
+reply_to files (Some (sweep name words spans)) = do
+  kept ← log_named files name
+  machines ← machines_behind [] files kept.chares words
+  sweep_on spans kept machines
+reply_to files (Some (tune name word tuning spans)) = do
+  kept ← log_named files name
+  machine ← machine_named files word
+  tuned tuning spans kept machine
 reply_to files (Some (gen program)) = gives (Ok (generated program))
 reply_to files (Some (trial program)) = tried program
 

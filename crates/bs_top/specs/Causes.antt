@@ -7,13 +7,15 @@ use Rattle.bs_top.specs.declared.stopped.Stopped.{Stopped}
 use Rattle.bs_top.specs.declared.stopped.Stopped.TheVariants.{Refused, NoFile, ReadFault, Memory}
 use Rattle.bs_top.specs.Computing.{Computes}
 use Rattle.bs_top.specs.Inputs.{file_limit, log_limit}
-use Rattle.bs_top.specs.Words.{Asked, predict, trace, chain, gen, trial}
+use Rattle.bs_top.specs.Words.{Asked, predict, trace, chain, sweep, tune, gen, trial}
 
 -- the most bytes that a file of a command may have
 abbrev pub most_of : Option Asked → ℕ
 most_of (Some (predict name word waves journal)) = log_limit
 most_of (Some (trace name word)) = log_limit
 most_of (Some (chain name word)) = log_limit
+most_of (Some (sweep name words spans)) = log_limit
+most_of (Some (tune name word tuning spans)) = log_limit
 most_of _ = file_limit
 
 -- a limit of a file of a command whose files have at most so many bytes: that of programs and machines, or this one

@@ -1,5 +1,5 @@
 -- Files that hold all that a command needs, and what it then comes to.
-use Rattle.std.specs.Prelude.{◌≡◌, ◌≤◌, ◌⊎◌, ℕ, IsTrue, List, length, Option, Some, None, Ok}
+use Rattle.std.specs.Prelude.{◌≡◌, ◌≤◌, ◌⊎◌, ℕ, Bool, IsTrue, List, [], ◌∷◌, length, Option, Some, None, Ok}
 use Rattle.std.specs.FinMap as map
 use Rattle.bs_desk.specs.Outside.{Outside, Files}
 use Rattle.bs_check.specs.Refusal.{refusal}
@@ -22,8 +22,10 @@ use Rattle.bs_top.specs.Answer.{Answer, answer_of}
 use Rattle.bs_top.specs.commands.Journal.{IsJournal}
 use Rattle.bs_top.specs.Reports.{IsOutcomeOn, IsPrediction, IsReport}
 use Rattle.bs_top.specs.commands.Chain.{IsChaining}
+use Rattle.bs_top.specs.commands.Sweep.{IsSweep}
 use Rattle.bs_top.specs.commands.Trace.{IsTracing}
 use Rattle.bs_top.specs.commands.Trial.{trial_limit, tried_as}
+use Rattle.bs_top.specs.commands.Tune.{IsTune}
 use Rattle.bs_top.specs.Waves.{budget_of}
 use Rattle.bs_top.specs.Inputs.{file_limit}
 use Rattle.bs_top.specs.commands.Emulate.{kept_in}
@@ -31,6 +33,7 @@ use Rattle.bs_top.specs.Performs.{WritesAnswer}
 use Rattle.bs_top.specs.Step.{Said}
 use Rattle.bs_words.specs.Machine.{MachineWord, flat, file}
 use Rattle.bs_words.specs.declared.generated.Generated.{Generated}
+use Rattle.bs_words.specs.declared.tuning.Tuning.{Tuning}
 
 -- the file of that name holds these bytes, and no more than the file of a program or a machine may have
 pub record HasFile (files : Files) (name bytes : List ℕ) : Type 0 where
@@ -114,6 +117,26 @@ IsTried g p m answer = (outcome : Outcome) × IsOutcomeOn p m trial_limit outcom
 -- the answer is the critical chain of the log on the machine at the log's one consistent table
 abbrev pub IsChained : Log → MachineOf → Answer → Type 0
 IsChained kept m answer = (said : Said) × IsChaining kept m said × (answer ≡ answer_of (Ok said))
+
+-- each word gives a machine that fits so many chares
+abbrev pub HaveMachines : Files → ℕ → List MachineWord → List MachineOf → Type 0
+HaveMachines files chares [] [] = Unit {0}
+HaveMachines files chares [] (m ∷ ms) = ⊥
+HaveMachines files chares (word ∷ words) [] = ⊥
+HaveMachines files chares (word ∷ words) (m ∷ ms) = HasMachine files word m × IsTrue (has_length m.place chares) × HaveMachines files chares words ms
+
+-- there are a log and machines that fit it
+pub record CanSweep (files : Files) (name : List ℕ) (words : List MachineWord) (kept : Log) (machines : List MachineOf) : Type 0 where
+  pub log : HasLog files name kept
+  pub are_fitting : HaveMachines files kept.chares words machines
+
+-- the answer is the text of the points of the log on the machines
+abbrev pub IsSwept : Bool → Log → List MachineOf → Answer → Type 0
+IsSwept spans kept machines answer = (said : Said) × IsSweep spans kept machines said × (answer ≡ answer_of (Ok said))
+
+-- the answer is the text of the two points of the log on the machine
+abbrev pub IsTuned : Tuning → Bool → Log → MachineOf → Answer → Type 0
+IsTuned tuning spans kept m answer = (said : Said) × IsTune tuning spans kept m said × (answer ≡ answer_of (Ok said))
 
 -- no number of waves is given, or one that is enough for the log on every machine
 abbrev pub IsAmple : Option ℕ → Log → Type 0

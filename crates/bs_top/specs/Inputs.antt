@@ -1,6 +1,6 @@
 -- What a command reads: the contents of files, and the machine, the program or the log that they hold (docs/output.md).
 use Rattle.std.specs.FinMap as map
-use Rattle.std.specs.Prelude.{◌≡◌, ℕ, nat_le, List, length, Option, Some, None, Result, Ok, Err, if◌then◌else◌}
+use Rattle.std.specs.Prelude.{◌≡◌, ℕ, nat_le, List, [], ◌∷◌, ◌++◌, length, Option, Some, None, Result, Ok, Err, if◌then◌else◌}
 use Rattle.bs_check.specs.Refusal.{IsRefused, refusal}
 use Rattle.bs_check.specs.declared.fault.CheckFault.{CheckFault}
 use Rattle.bs_desk.specs.Outside.{Files}
@@ -71,6 +71,20 @@ accepted files name = do
 -- the machine has a processor for each chare
 unfoldable pub fits : ℕ → MachineOf → Step (Unit {0})
 fits chares m = gives (if has_length m.place chares then Ok tt else Err (Refused (fault.BadPlace (record { given = homes_in m.place; needed = chares }))))
+
+-- the machine of a word, where it has a processor for each chare
+unfoldable pub fitting_machine : Files → ℕ → MachineWord → Step MachineOf
+fitting_machine files chares word = do
+  machine ← machine_named files word
+  _ ← fits chares machine
+  gives (Ok machine)
+
+-- the machines of words behind those that are there, each read and fitted before the next one
+unfoldable pub machines_behind : List MachineOf → Files → ℕ → List MachineWord → Step (List MachineOf)
+machines_behind machines files chares [] = gives (Ok machines)
+machines_behind machines files chares (word ∷ words) = do
+  machine ← fitting_machine files chares word
+  machines_behind (machines ++ machine ∷ []) files chares words
 
 -- want of memory is no fault of a text
 abbrev pub IsLogFault : List ℕ → LogFault → Type 0

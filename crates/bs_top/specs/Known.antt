@@ -25,6 +25,9 @@ use Rattle.bs_times.specs.Net.{Causal, HasRow, Net, Starts, Ticks, net_of}
 use Rattle.bs_times.specs.Outcomes.{outcome_of}
 use Rattle.bs_times.specs.Times.{IsConsistent}
 use Rattle.bs_tree.specs.declared.tree.Program.{Program}
+use Rattle.bs_whatif.specs.Figures.{swept, tuned}
+use Rattle.bs_whatif.specs.Rescaled.{IsFraction}
+use Rattle.bs_whatif.specs.Texts.{IsPointsText, IsSpansText}
 
 -- the serial machine model has one answer at most
 abbrev pub OneSerial : Type 0
@@ -48,6 +51,10 @@ pub record LogLaws : Type 0 where
   pub either : (net : Net) → Causal net → (estimates : Ticks) (most : ℕ) (s : BudgetSpent) → IsSpent net estimates most s → StillAt net estimates most → ⊥
   pub noting : (net : Net) → Causal net → (estimates : Ticks) (most : ℕ) (a b : List (List Correction)) (p q : Bool) → AreNoted net estimates most a p → AreNoted net estimates most b q → (a ≡ b) × (p ≡ q)
   pub chain : (net : Net) → Causal net → (s z : Starts) → IsConsistent net s → IsConsistent net z → (c d : Chain) → IsCritical net s c → IsCritical net z d → c ≡ d
+  pub points : (log : Log) (ms : List Fitted) → IsValid log → (a b : List ℕ) → IsPointsText (swept log ms) a → IsPointsText (swept log ms) b → a ≡ b
+  pub spans : (log : Log) (ms : List Fitted) → IsValid log → (a b : List ℕ) → IsSpansText (swept log ms) a → IsSpansText (swept log ms) b → a ≡ b
+  pub tuned_points : (log : Log) (m : Fitted) (stmt num den : ℕ) → IsValid log → IsFraction num den → (a b : List ℕ) → IsPointsText (tuned log m stmt num den) a → IsPointsText (tuned log m stmt num den) b → a ≡ b
+  pub tuned_spans : (log : Log) (m : Fitted) (stmt num den : ℕ) → IsValid log → IsFraction num den → (a b : List ℕ) → IsSpansText (tuned log m stmt num den) a → IsSpansText (tuned log m stmt num den) b → a ≡ b
   pub outcome : (log : Log) (machine : Machine) → IsValid log → IsTimely machine → (s z : Starts) → IsConsistent (net_of log machine) s → IsConsistent (net_of log machine) z → outcome_of log machine s ≡ outcome_of log machine z
 
 -- all of it
@@ -68,6 +75,10 @@ pub record SomeLaws : Type 0 where
   pub clean_run : (p : Program) (limit : ℕ) (m : Machine) (v : Verdict) → IsVerdict p limit v → IsSerial p limit m unclean → (hs : List History) → v ≡ clean hs → ⊥
   pub table : (log : Log) (machine : Machine) → IsValid log → IsTimely machine → (s : Starts) × IsConsistent (net_of log machine) s
   pub chain : (log : Log) (machine : Machine) → IsValid log → IsTimely machine → (s : Starts) → IsConsistent (net_of log machine) s → (c : Chain) × IsCritical (net_of log machine) s c
+  pub points : (log : Log) (ms : List Fitted) → IsValid log → (text : List ℕ) × IsPointsText (swept log ms) text
+  pub spans : (log : Log) (ms : List Fitted) → IsValid log → (text : List ℕ) × IsSpansText (swept log ms) text
+  pub tuned_points : (log : Log) (m : Fitted) (stmt num den : ℕ) → IsValid log → IsFraction num den → (text : List ℕ) × IsPointsText (tuned log m stmt num den) text
+  pub tuned_spans : (log : Log) (m : Fitted) (stmt num den : ℕ) → IsValid log → IsFraction num den → (text : List ℕ) × IsSpansText (tuned log m stmt num den) text
   pub settling : (net : Net) → Causal net → (estimates : Ticks) (most : ℕ) → 1 ≤ most → StillAt net estimates most ⊎ ((s : BudgetSpent) × IsSpent net estimates most s)
   pub noting : (net : Net) → Causal net → (estimates : Ticks) (most : ℕ) → 1 ≤ most → (lists : List (List Correction)) × (settled : Bool) × AreNoted net estimates most lists settled
   pub moving : (net : Net) → Causal net → (estimates : Ticks) (most : ℕ) (lists : List (List Correction)) → AreNoted net estimates most lists false → StillAt net estimates most → ⊥

@@ -6,5 +6,8 @@ pub mod Journal
 pub mod Predict
 pub mod Trace
 pub mod Chain
+pub mod Points
+pub mod Sweep
+pub mod Tune
 pub mod Gen
 pub mod Trial

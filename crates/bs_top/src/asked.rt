@@ -3,11 +3,14 @@ ghost use Rattle.std.specs.Prelude.{◌≡◌, IfSome, option_map};
 ghost use Rattle.bs_top.specs.Seen.{HasLimit, asked_of};
 ghost use Rattle.bs_top.specs.Words.{AreWaves, IsLimit, asked_with, built as built_of};
 
-use bs_words::{Argument, Command, Generated, MachineWord, Verb, asked_program, machine_word};
+use bs_words::{
+    Argument, Command, Generated, MachineWord, Tuning, Verb, asked_program, asked_tuning,
+    machine_word,
+};
 
 /// A command that is built, with the name of the file of its program or its log, and what else it has: a
-/// machine, the name of the log's file, the limit of sizes, the number of waves, the name of the journal's
-/// file; or with a program to generate.
+/// machine or the words of several, the name of the log's file, the limit of sizes, the number of waves, the
+/// name of the journal's file, a tuning, whether only spans are wanted; or with a program to generate.
 #[derive(Clone, Copy, Drop)]
 pub(crate) enum Asked<'a> {
     Check(&'a str),
@@ -17,6 +20,8 @@ pub(crate) enum Asked<'a> {
     Predict(&'a str, MachineWord<'a>, Option<u64>, Option<&'a str>),
     Trace(&'a str, MachineWord<'a>),
     Chain(&'a str, MachineWord<'a>),
+    Sweep(&'a str, &'a [Argument], bool),
+    Tune(&'a str, MachineWord<'a>, Tuning, bool),
     Gen(Generated),
     Trial(Generated),
 }
@@ -32,6 +37,7 @@ pub(crate) fn built(command: &Command) -> Option<Asked<'_>>
         limit: command.limit,
         waves: command.waves,
         journal: journal(command),
+        spans: command.spans,
     };
     with_names(options, command.verb, command.names.as_slice())
 }
@@ -42,6 +48,7 @@ struct Options<'a> {
     limit: u64,
     waves: Option<u64>,
     journal: Option<&'a str>,
+    spans: bool,
 }
 
 // The name of the journal's file.
@@ -57,13 +64,14 @@ fn journal(command: &Command) -> Option<&str>
 fn with_names<'a>(options: Options<'a>, verb: Verb, names: &'a [Argument]) -> Option<Asked<'a>>
     requires limit { IsLimit options.limit }
     requires waves { AreWaves options.waves }
-    ensures value { option_map asked_of result ≡ asked_with options.entry.limit options.entry.waves (option_map (λ name. name.now) options.entry.journal) verb names.now }
+    ensures value { option_map asked_of result ≡ asked_with options.entry.limit options.entry.waves (option_map (λ name. name.now) options.entry.journal) options.entry.spans verb names.now }
     ensures limit { IfSome result HasLimit }
 {
     let Options {
         limit,
         waves,
         journal,
+        spans,
     } = options;
     match (verb, names) {
         (Verb::Check, [program]) => Some(Asked::Check(program.text())),
@@ -89,6 +97,15 @@ fn with_names<'a>(options: Options<'a>, verb: Verb, names: &'a [Argument]) -> Op
         (Verb::Chain, [log, machine]) => {
             let machine = machine_word(machine.text())?;
             Some(Asked::Chain(log.text(), machine))
+        }
+        (Verb::Sweep, [log, machines @ ..]) => {
+            machine_word(machines.first()?.text())?;
+            Some(Asked::Sweep(log.text(), machines, spans))
+        }
+        (Verb::Tune, [log, machine, stmt, num, den]) => {
+            let machine = machine_word(machine.text())?;
+            let tuning = asked_tuning(stmt.text(), num.text(), den.text())?;
+            Some(Asked::Tune(log.text(), machine, tuning, spans))
         }
         (Verb::Gen, [kind, chares, seed]) => {
             let generated = asked_program(kind.text(), chares.text(), seed.text())?;

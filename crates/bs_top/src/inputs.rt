@@ -1,5 +1,5 @@
 // What a command reads: files, machines, programs and logs.
-ghost use Rattle.std.specs.Prelude.{◌≡◌, ◌≤◌, IfOk, IfSome};
+ghost use Rattle.std.specs.Prelude.{◌≡◌, ◌≤◌, ◌+◌, ◌++◌, ◌∷◌, [], IfOk, IfSome, length, map};
 ghost use Rattle.bs_check.specs.Refusal.{IsWhole};
 ghost use Rattle.bs_desk.specs.Outside.{IsReading};
 ghost use Rattle.bs_log.specs.Valid.{IsValid};
@@ -9,8 +9,10 @@ ghost use Rattle.bs_parse.specs.Text.{HasText};
 ghost use Rattle.bs_words.specs.Machine.{word_of};
 ghost use Rattle.bs_top.specs.Causes.{HasRead, StepCause};
 ghost use Rattle.bs_top.specs.Computing.{Computes};
-ghost use Rattle.bs_top.specs.Inputs.{accepted as accepted_of, checked, contents, file_limit, fits, log_in, log_limit, log_named as log_named_of, machine_named, or_bad_machine, program_in};
+ghost use Rattle.bs_top.specs.Inputs.{accepted as accepted_of, checked, contents, file_limit, fits, fitting_machine as fitting_machine_of, log_in, log_limit, log_named as log_named_of, machine_named, machines_behind as machines_behind_of, or_bad_machine, program_in};
+ghost use Rattle.bs_top.specs.Seen.{AreFittedTo};
 ghost use Rattle.bs_top.specs.Step.{Told, gives};
+ghost use Rattle.bs_top.specs.commands.Sweep.{views};
 
 use crate::stopped::Stopped;
 use bs_check::{Accepted, check};
@@ -23,7 +25,7 @@ use bs_parse::parse;
 use bs_report::Fault;
 use bs_tree::Program;
 use bs_words::MachineWord;
-use std::alloc::Global;
+use std::alloc::{AllocError, Global};
 
 /// How many bytes the file of a program or a machine may have.
 pub(crate) const FILE_LIMIT: u64 = 1_048_576;
@@ -157,4 +159,58 @@ pub(crate) fn fit(machine: Machine, chares: u32) -> Result<Fitted, Stopped>
     ensures told { Told (λ _. tt) (fits chares (machine_view machine)) result }
 {
     Ok(machine.fit(chares)?)
+}
+
+/// The machines of some words, for a command that has read a log of so many chares: each is read and fitted
+/// before the next one, and comes behind those that are there already.
+pub(crate) fn machines_behind<D: Desk>(
+    alloc: Global,
+    machines: Vec<Fitted>,
+    desk: &mut D,
+    words: &[MachineWord<'_>],
+    chares: u32,
+) -> Result<Vec<Fitted>, Stopped>
+    requires chares { (1 ≤ chares) × (chares ≤ 65536) }
+    requires fitted { AreFittedTo chares machines.items }
+    ensures reading { IsReading (D.world desk.old) (D.world desk.new) }
+    ensures later { (D.world desk.old).read_faults ≤ (D.world desk.new).read_faults }
+    ensures cause { HasRead log_limit (D.world desk.old) → StepCause log_limit (D.world desk.old) (D.world desk.new) result }
+    ensures fitted { IfOk result (λ fitted. AreFittedTo chares fitted.items) }
+    ensures each { IfOk result (λ fitted. length fitted.items ≡ length machines.items + length words.now) }
+    ensures told { IfSome (D.world desk.old).files (λ files. Told (λ fitted. views fitted.items) (machines_behind_of (views machines.items) files chares (map word_of words.now)) result) }
+{
+    match words {
+        [word, words @ ..] => {
+            let machine = fitting_machine(alloc, desk, *word, chares)?;
+            let machines = with_machine(machines, machine)?;
+            machines_behind(alloc, machines, desk, words, chares)
+        }
+        [] => Ok(machines),
+    }
+}
+
+// The machines with one more.
+fn with_machine(mut machines: Vec<Fitted>, machine: Fitted) -> Result<Vec<Fitted>, AllocError>
+    ensures { IfOk result (λ all. all.items ≡ machines.items ++ machine ∷ []) }
+{
+    machines.push(machine)?;
+    Ok(machines)
+}
+
+// The machine of a word, fitted to so many chares, for a command that has read a log.
+fn fitting_machine<D: Desk>(
+    alloc: Global,
+    desk: &mut D,
+    word: MachineWord<'_>,
+    chares: u32,
+) -> Result<Fitted, Stopped>
+    requires { (1 ≤ chares) × (chares ≤ 65536) }
+    ensures reading { IsReading (D.world desk.old) (D.world desk.new) }
+    ensures later { (D.world desk.old).read_faults ≤ (D.world desk.new).read_faults }
+    ensures cause { HasRead log_limit (D.world desk.old) → StepCause log_limit (D.world desk.old) (D.world desk.new) result }
+    ensures fitted { IfOk result (λ fitted. fitted.chares ≡ chares) }
+    ensures told { IfSome (D.world desk.old).files (λ files. Told (λ fitted. machine_view fitted.machine) (fitting_machine_of files chares (word_of word.entry)) result) }
+{
+    let machine = machine(alloc, desk, word, LOG_LIMIT)?;
+    fit(machine, chares)
 }

@@ -1,5 +1,5 @@
 // Laws of what is answered. Each is a function whose contract is the law.
-ghost use Rattle.std.specs.Prelude.{◌≡◌, ◌↔◌, ℕ, List, None, Ok, Option, Some, length};
+ghost use Rattle.std.specs.Prelude.{◌≡◌, ◌↔◌, ℕ, Bool, List, None, Ok, Option, Some, length};
 ghost use Rattle.bs_desk.specs.Outside.{Files, Outside};
 ghost use Rattle.bs_log.specs.Collected.{log_of};
 ghost use Rattle.bs_log.specs.declared.history.History.{History};
@@ -10,12 +10,13 @@ ghost use Rattle.bs_tree.specs.declared.tree.Program.{Program};
 ghost use Rattle.bs_top.specs.Answer.{Answer, IsAnswer, answer_of};
 ghost use Rattle.bs_top.specs.commands.Check.{printed};
 ghost use Rattle.bs_top.specs.commands.Gen.{generated};
-ghost use Rattle.bs_top.specs.Complete.{CanEmulate, CanForetell, CanPredict, CanRun, CanTry, Ends, HasProgram, IsAmple, IsAmpleFor, IsChained, IsJournaled, IsPredicted, IsReported, IsTraced, IsTried, logged_in};
+ghost use Rattle.bs_top.specs.Complete.{CanEmulate, CanForetell, CanPredict, CanRun, CanSweep, CanTry, Ends, HasProgram, IsAmple, IsAmpleFor, IsChained, IsJournaled, IsPredicted, IsReported, IsSwept, IsTraced, IsTried, IsTuned, logged_in};
 ghost use Rattle.bs_top.specs.Known.{Known, SomeLaws};
 ghost use Rattle.bs_top.specs.Performs.{Answers};
-ghost use Rattle.bs_top.specs.Words.{Asked, IsLimit, asked_by, chain, check, emulate, gen, model, predict, run, trace, trial};
+ghost use Rattle.bs_top.specs.Words.{Asked, IsLimit, asked_by, chain, check, emulate, gen, model, predict, run, sweep, trace, trial, tune};
 ghost use Rattle.bs_words.specs.Machine.{MachineWord};
 ghost use Rattle.bs_words.specs.declared.generated.Generated.{Generated};
+ghost use Rattle.bs_words.specs.declared.tuning.Tuning.{Tuning};
 ghost use Rattle.bs_top.specs.declared.status.Status.{Status};
 
 // The laws of the crates below that those here rest on.
@@ -38,6 +39,8 @@ fn known()
     bs_settle::laws::one_noting();
     bs_serial::laws::verdict_times();
     bs_path::laws::one_chain();
+    bs_whatif::laws::one_sweep();
+    bs_whatif::laws::one_tuning();
 }
 
 // And the laws by which there is something.
@@ -54,6 +57,8 @@ fn some_laws()
     bs_settle::laws::one_noting();
     bs_machine::laws::fitted_machines();
     bs_path::laws::one_chain();
+    bs_whatif::laws::one_sweep();
+    bs_whatif::laws::one_tuning();
 }
 
 /// For given contents of the files a command has one answer.
@@ -82,7 +87,9 @@ pub fn some_answer()
 /// Where the file of a log is there and holds the text of a valid log, and there is a machine that fits
 /// it, the answer to `trace` is the trace of the log at its one consistent table, with the status of the
 /// log's end (`trace`), and the answer to `chain` is the critical chain of the log at that table, with the
-/// same status (`chain`). Where no number of waves is given or one that is enough for the log, the answer to
+/// same status (`chain`). Where there are machines that each fit the log, the answer to `sweep` is the text of
+/// its points on them (`sweep`), and the answer to `tune` is the text of its two points on one machine
+/// (`tune`), with the same status. Where no number of waves is given or one that is enough for the log, the answer to
 /// `predict` is the report of the log's outcome at that table, with the status of its end (`predict`), and
 /// where a journal is asked for, the journal of its waves before that report (`journal`).
 ///
@@ -95,7 +102,7 @@ pub fn some_answer()
 ///
 /// So a call that answers such a command over such files writes these texts whole and ends with that
 /// status, or its status is read fault, write fault or want of memory (`checks`, `models`,
-/// `runs`, `emulates`, `predicts`, `journals`, `traces`, `chains`, `generates`,
+/// `runs`, `emulates`, `predicts`, `journals`, `traces`, `chains`, `sweeps`, `tunes`, `generates`,
 /// `trials`). When the first two come is said by the clause
 /// `cause` of `perform_alone`.
 pub fn complete()
@@ -107,6 +114,8 @@ pub fn complete()
     ensures journal { (files : Files) (name into : List ℕ) (word : MachineWord) (waves : Option ℕ) (kept : Log) (m : MachineOf) (a : Answer) → CanPredict files name word kept m → IsAmple waves kept → IsAnswer files (Some (predict name word waves (Some into))) a → IsJournaled waves into kept m a }
     ensures trace { (files : Files) (name : List ℕ) (word : MachineWord) (kept : Log) (m : MachineOf) (a : Answer) → CanPredict files name word kept m → IsAnswer files (Some (trace name word)) a → IsTraced kept m a }
     ensures chain { (files : Files) (name : List ℕ) (word : MachineWord) (kept : Log) (m : MachineOf) (a : Answer) → CanPredict files name word kept m → IsAnswer files (Some (chain name word)) a → IsChained kept m a }
+    ensures sweep { (files : Files) (name : List ℕ) (words : List MachineWord) (spans : Bool) (kept : Log) (ms : List MachineOf) (a : Answer) → CanSweep files name words kept ms → IsAnswer files (Some (sweep name words spans)) a → IsSwept spans kept ms a }
+    ensures tune { (files : Files) (name : List ℕ) (word : MachineWord) (tuning : Tuning) (spans : Bool) (kept : Log) (m : MachineOf) (a : Answer) → CanPredict files name word kept m → IsAnswer files (Some (tune name word tuning spans)) a → IsTuned tuning spans kept m a }
     ensures generate { (files : Files) (program : Generated) (a : Answer) → IsAnswer files (Some (gen program)) a → a ≡ answer_of (Ok (generated program)) }
     ensures trial { (files : Files) (program : Generated) (p : Program) (m : MachineOf) (a : Answer) → CanTry program p m → IsAnswer files (Some (trial program)) a → IsTried program p m a }
     ensures checks { (files : Files) (name : List ℕ) (p : Program) (old new : Outside) (s : Status) → HasProgram files name p → Answers files (Some (check name)) old new s → Ends (λ a. a ≡ answer_of (Ok (printed p))) old new s }
@@ -117,6 +126,8 @@ pub fn complete()
     ensures journals { (files : Files) (name into : List ℕ) (word : MachineWord) (waves : Option ℕ) (kept : Log) (m : MachineOf) (old new : Outside) (s : Status) → CanPredict files name word kept m → IsAmple waves kept → Answers files (Some (predict name word waves (Some into))) old new s → Ends (IsJournaled waves into kept m) old new s }
     ensures traces { (files : Files) (name : List ℕ) (word : MachineWord) (kept : Log) (m : MachineOf) (old new : Outside) (s : Status) → CanPredict files name word kept m → Answers files (Some (trace name word)) old new s → Ends (IsTraced kept m) old new s }
     ensures chains { (files : Files) (name : List ℕ) (word : MachineWord) (kept : Log) (m : MachineOf) (old new : Outside) (s : Status) → CanPredict files name word kept m → Answers files (Some (chain name word)) old new s → Ends (IsChained kept m) old new s }
+    ensures sweeps { (files : Files) (name : List ℕ) (words : List MachineWord) (spans : Bool) (kept : Log) (ms : List MachineOf) (old new : Outside) (s : Status) → CanSweep files name words kept ms → Answers files (Some (sweep name words spans)) old new s → Ends (IsSwept spans kept ms) old new s }
+    ensures tunes { (files : Files) (name : List ℕ) (word : MachineWord) (tuning : Tuning) (spans : Bool) (kept : Log) (m : MachineOf) (old new : Outside) (s : Status) → CanPredict files name word kept m → Answers files (Some (tune name word tuning spans)) old new s → Ends (IsTuned tuning spans kept m) old new s }
     ensures generates { (files : Files) (program : Generated) (old new : Outside) (s : Status) → Answers files (Some (gen program)) old new s → Ends (λ a. a ≡ answer_of (Ok (generated program))) old new s }
     ensures trials { (files : Files) (program : Generated) (p : Program) (m : MachineOf) (old new : Outside) (s : Status) → CanTry program p m → Answers files (Some (trial program)) old new s → Ends (IsTried program p m) old new s }
 {

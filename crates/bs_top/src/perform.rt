@@ -16,8 +16,10 @@ use crate::commands::generate::generated_text;
 use crate::commands::model::model;
 use crate::commands::predict::predict;
 use crate::commands::run::run;
+use crate::commands::sweep::sweep;
 use crate::commands::trace::trace;
 use crate::commands::trial::trial;
+use crate::commands::tune::tune;
 use crate::reply::Reply;
 use crate::status::{Status, status_of};
 use crate::stopped::Stopped;
@@ -65,6 +67,10 @@ fn reply<D: Desk>(alloc: Global, words: &[String], desk: &mut D) -> Result<Reply
         }
         Some(Asked::Trace(name, word)) => trace(alloc, desk, name, word),
         Some(Asked::Chain(name, word)) => chain(alloc, desk, name, word),
+        Some(Asked::Sweep(name, machines, spans)) => sweep(alloc, desk, name, machines, spans),
+        Some(Asked::Tune(name, word, tuning, spans)) => {
+            tune(alloc, desk, name, word, tuning, spans)
+        }
         Some(Asked::Gen(program)) => Ok(generated_text(alloc, program)?),
         Some(Asked::Trial(program)) => trial(alloc, program),
         None => Err(Stopped::Refused(Fault::BadWords)),

@@ -8,4 +8,5 @@ mod outside;
 mod programs;
 mod refusals;
 mod session;
+mod sweeps;
 mod workloads;

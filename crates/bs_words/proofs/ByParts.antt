@@ -2,9 +2,11 @@
 use Rattle.std.proofs.Common.{◌≡◌, ◌∙◌, ◌==◌, ◌&&◌, ◌||◌, ℕ, Bool, cond, true, false, not, refl, sym, ap, List, [], ◌∷◌, ◌++◌, Option, Some, None, is_some, true≢false}
 use Rattle.std.specs.Bool.{⊤}
 use Rattle.std.specs.Option.{option_and_then}
-use Rattle.bs_words.specs.Plain.{Text, Read, step, read_from, ended, value_of, begun, named, by_waits, is_empty, setting_of, with_value as with_given}
+use Rattle.bs_words.specs.Plain.{Text, Read, step, read_from, ended, value_of, begun, named, by_waits, is_empty, setting_of, flag_of, stands, with_flag, flagged, dashed, with_value as with_given}
 use Rattle.bs_words.specs.Texts.{Texts, texts_in}
-use Rattle.bs_words.specs.Parts.{Part, valued, bare, is_bare, before, parts, with_value}
+use Rattle.bs_words.specs.Parts.{Part, valued, flag, by_flag, bare, is_bare, before, parts, with_value}
+use Rattle.bs_words.specs.declared.flag.Flag.{Flag}
+use Rattle.bs_words.specs.declared.flag.Flag.TheVariants.{Spans}
 use Rattle.bs_words.specs.declared.setting.Setting.{Setting}
 use Rattle.bs_words.specs.declared.setting.Setting.TheVariants.{Limit, Workers, Waves, Journal}
 
@@ -19,6 +21,7 @@ given o v r = with_given o v (begin o r)
 abbrev pub run : Read → List Part → Option Texts
 run r [] = texts_in r
 run r (valued o v ∷ ps) = cond (is_some (value_of o r)) None (run (given o v r) ps)
+run r (flag f ∷ ps) = cond (stands f r) None (run (with_flag f r) ps)
 run r (bare w ∷ ps) = option_and_then (λ next. run next ps) (named r.command w r)
 
 abbrev pub read_texts : Read → List Text → Option Texts
@@ -66,6 +69,21 @@ twice_run r o (v ∷ ws) twice = go (is_bare v) (parts ws)
 no_setting : (r : Read) (ws : List Text) → None ≡ option_and_then (run r) (with_value None ws)
 no_setting r [] = refl
 no_setting r (v ∷ ws) = refl
+
+-- what an option without a value comes to
+flag_run : (r : Read) (f : Flag) (ws : List Text) → read_texts (with_flag f r) ws ≡ option_and_then (run (with_flag f r)) (parts ws)
+    → option_and_then texts_in (option_and_then (λ next. read_from next ws) (flagged f r)) ≡ option_and_then (run r) (before (flag f) (parts ws))
+flag_run r f ws ih = go (stands f r) refl (parts ws) ih
+  where
+    go : (k : Bool) → stands f r ≡ k → (ps : Option (List Part)) → read_texts (with_flag f r) ws ≡ option_and_then (run (with_flag f r)) ps
+        → option_and_then texts_in (option_and_then (λ next. read_from next ws) (cond k None (Some (with_flag f r)))) ≡ option_and_then (run r) (before (flag f) ps)
+    go true twice None ih = refl
+    go true twice (Some ps) ih = rw twice refl
+    go false once None ih = ih
+    go false once (Some ps) ih = rw once ih
+
+keeps_waits : (f : Flag) (r : Read) → (with_flag f r).waits ≡ r.waits
+keeps_waits Spans r = refl
 
 bare_run : (r : Read) (w : Text) (ws : List Text) (o : Option Read) → named r.command w r ≡ o
     → ((next : Read) → o ≡ Some next → read_texts next ws ≡ option_and_then (run next) (parts ws))
@@ -116,14 +134,20 @@ option_run r (Some o) ws ih = go (is_some (value_of o r)) refl
     go true twice = twice_run r o ws twice
     go false once = once_run r o ws ih once
 
+dashed_run : (r : Read) (q : Option Flag) (w : Text) (ws : List Text) → r.waits ≡ None
+    → ((next : Read) → next.waits ≡ None → read_texts next ws ≡ option_and_then (run next) (parts ws)) → AfterValue r ws
+    → option_and_then texts_in (option_and_then (λ next. read_from next ws) (dashed q w r)) ≡ option_and_then (run r) (by_flag q (parts ws) (with_value (setting_of w) ws))
+dashed_run r (Some f) w ws n ih after = flag_run r f ws (ih (with_flag f r) (keeps_waits f r ∙ n))
+dashed_run r None w ws n ih after = option_run r (setting_of w) ws after
+
 word_run : (r : Read) (b : ℕ) (bs : Text) (ws : List Text) → r.waits ≡ None
     → ((next : Read) → next.waits ≡ None → read_texts next ws ≡ option_and_then (run next) (parts ws)) → AfterValue r ws
     → read_texts r ((b ∷ bs) ∷ ws) ≡ option_and_then (run r) (parts ((b ∷ bs) ∷ ws))
 word_run r b bs ws n ih after = ap (λ q. option_and_then texts_in (option_and_then (λ next. read_from next ws) (by_waits q (b ∷ bs) r))) n ∙ go (b == 45)
   where
-    go : (k : Bool) → option_and_then texts_in (option_and_then (λ next. read_from next ws) (cond k (begun (setting_of (b ∷ bs)) r) (named r.command (b ∷ bs) r)))
-        ≡ option_and_then (run r) (cond k (with_value (setting_of (b ∷ bs)) ws) (before (bare (b ∷ bs)) (parts ws)))
-    go true = option_run r (setting_of (b ∷ bs)) ws after
+    go : (k : Bool) → option_and_then texts_in (option_and_then (λ next. read_from next ws) (cond k (dashed (flag_of (b ∷ bs)) (b ∷ bs) r) (named r.command (b ∷ bs) r)))
+        ≡ option_and_then (run r) (cond k (by_flag (flag_of (b ∷ bs)) (parts ws) (with_value (setting_of (b ∷ bs)) ws)) (before (bare (b ∷ bs)) (parts ws)))
+    go true = dashed_run r (flag_of (b ∷ bs)) (b ∷ bs) ws n ih after
     go false = bare_run r (b ∷ bs) ws (named r.command (b ∷ bs) r) refl (λ next e. ih next (named_waits r next r.command (b ∷ bs) e ∙ n))
 
 pub to_parts : (r : Read) (ws : List Text) → r.waits ≡ None → read_texts r ws ≡ option_and_then (run r) (parts ws)

@@ -1,6 +1,7 @@
 pub mod Uses
 pub mod Walks
 pub mod Turns
+pub mod Defaults
 pub mod Taken
 pub mod Tested
 pub mod Texts

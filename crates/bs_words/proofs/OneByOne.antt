@@ -2,9 +2,11 @@
 use Rattle.std.proofs.Common.{◌≡◌, ◌∙◌, ◌&&◌, ◌||◌, Bool, cond, true, false, not, refl, sym, ap, List, [], ◌∷◌, ◌++◌, Option, Some, None, is_some, true≢false, append-nil, append_assoc}
 use Rattle.std.specs.Option.{option_map, option_and_then}
 use Rattle.std.proofs.lemmas.Option.{none-some}
-use Rattle.bs_words.specs.Plain.{Text, Read, nothing, value_of, named, is_empty}
+use Rattle.bs_words.specs.Plain.{Text, Read, nothing, value_of, stands, with_flag, named, is_empty}
 use Rattle.bs_words.specs.Texts.{Texts, plain_texts}
-use Rattle.bs_words.specs.Parts.{Part, valued, bare, parts, same, value_in, is_once, bares, after_name, after_command, is_together, texts_by, texts_of_parts, reading}
+use Rattle.bs_words.specs.Parts.{Part, valued, flag, stands_in, bare, parts, same, value_in, is_once, bares, after_name, after_command, is_together, texts_by, texts_of_parts, reading}
+use Rattle.bs_words.specs.declared.flag.Flag.{Flag}
+use Rattle.bs_words.specs.declared.flag.Flag.TheVariants.{Spans}
 use Rattle.bs_words.specs.declared.setting.Setting.{Setting}
 use Rattle.bs_words.specs.declared.setting.Setting.TheVariants.{Limit, Workers, Waves, Journal}
 use Rattle.bs_words.proofs.ByParts.{given, run, to_parts}
@@ -17,6 +19,7 @@ first_some None x = x
 abbrev clear : Read → List Part → Bool
 clear r [] = true
 clear r (valued o v ∷ ps) = not (is_some (value_of o r)) && clear r ps
+clear r (flag f ∷ ps) = not (stands f r) && clear r ps
 clear r (bare w ∷ ps) = clear r ps
 
 abbrev names_ok : Bool → List Text → List Part → Bool
@@ -36,6 +39,7 @@ filled c ns r ps = record {
   workers = first_some r.workers (value_in Workers ps);
   waves = first_some r.waves (value_in Waves ps);
   journal = first_some r.journal (value_in Journal ps);
+  spans = r.spans || stands_in Spans ps;
 }
 
 abbrev by_bares : List Text → Read → List Part → Option Texts
@@ -58,12 +62,16 @@ first_none : (x : Option Text) → first_some x None ≡ x
 first_none None = refl
 first_none (Some v) = refl
 
+or_false : (k : Bool) → (k || false) ≡ k
+or_false true = refl
+or_false false = refl
+
 none_left : (k : Bool) (ns : List Text) → names_ok k ns [] ≡ true
 none_left true ns = refl
 none_left false [] = refl
 none_left false (n ∷ ns) = refl
 
-filled_end : (c : Text) (r : Read) → record { command = c; names = r.names; limit = r.limit; workers = r.workers; waves = r.waves; journal = r.journal } ≡ filled c (r.names ++ []) r []
+filled_end : (c : Text) (r : Read) → record { command = c; names = r.names; limit = r.limit; workers = r.workers; waves = r.waves; journal = r.journal; spans = r.spans } ≡ filled c (r.names ++ []) r []
 filled_end c r = λ i. record {
   command = c;
   names = (sym (append-nil r.names)) i;
@@ -71,9 +79,10 @@ filled_end c r = λ i. record {
   workers = (sym (first_none r.workers)) i;
   waves = (sym (first_none r.waves)) i;
   journal = (sym (first_none r.journal)) i;
+  spans = (sym (or_false r.spans)) i;
 }
 
-at_end : (c : Option Text) (r : Read) → option_map (λ x. record { command = x; names = r.names; limit = r.limit; workers = r.workers; waves = r.waves; journal = r.journal }) c ≡ expected c r []
+at_end : (c : Option Text) (r : Read) → option_map (λ x. record { command = x; names = r.names; limit = r.limit; workers = r.workers; waves = r.waves; journal = r.journal; spans = r.spans }) c ≡ expected c r []
 at_end None r = refl
 at_end (Some c) r = ap (λ t. Some t) (filled_end c r) ∙ sym (ap (λ k. cond k (Some (filled c (r.names ++ []) r [])) None) (none_left r.closed r.names))
 
@@ -97,6 +106,12 @@ value_given Journal Workers v r = refl
 value_given Journal Waves v r = refl
 value_given Journal Journal v r = refl
 
+stands_given : (f : Flag) (o : Setting) (v : Text) (r : Read) → stands f (given o v r) ≡ stands f r
+stands_given Spans Limit v r = refl
+stands_given Spans Workers v r = refl
+stands_given Spans Waves v r = refl
+stands_given Spans Journal v r = refl
+
 swap : (a b c : Bool) → (a && (b && c)) ≡ (b && (a && c))
 swap true true c = refl
 swap true false c = refl
@@ -106,6 +121,8 @@ swap false false c = refl
 clear_given : (o : Setting) (v : Text) (r : Read) (ps : List Part) → clear (given o v r) ps ≡ (not (is_some (value_in o ps)) && clear r ps)
 clear_given o v r [] = refl
 clear_given o v r (bare w ∷ ps) = clear_given o v r ps
+clear_given o v r (flag f ∷ ps) = ap (λ k. not k && clear (given o v r) ps) (stands_given f o v r) ∙ ap (λ x. not (stands f r) && x) (clear_given o v r ps)
+    ∙ swap (not (stands f r)) (not (is_some (value_in o ps))) (clear r ps)
 clear_given o v r (valued q w ∷ ps) = ap (λ x. not (is_some x) && clear (given o v r) ps) (value_given q o v r) ∙ go (same o q) (clear_given o v r ps)
   where
     go : (k : Bool) → clear (given o v r) ps ≡ (not (is_some (value_in o ps)) && clear r ps)
@@ -177,17 +194,71 @@ starts_given Workers v r st none = (still_open r.closed r.names (st none), (st n
 starts_given Waves v r st none = (still_open r.closed r.names (st none), (st none).1)
 starts_given Journal v r st none = (still_open r.closed r.names (st none), (st none).1)
 
+-- ---- an option without a value
+
+value_flagged : (q : Setting) (f : Flag) (r : Read) → value_of q (with_flag f r) ≡ value_of q r
+value_flagged Limit Spans r = refl
+value_flagged Workers Spans r = refl
+value_flagged Waves Spans r = refl
+value_flagged Journal Spans r = refl
+
+clear_flagged : (f : Flag) (r : Read) (ps : List Part) → clear (with_flag f r) ps ≡ (not (stands_in f ps) && clear r ps)
+clear_flagged f r [] = refl
+clear_flagged f r (bare w ∷ ps) = clear_flagged f r ps
+clear_flagged f r (valued q w ∷ ps) = ap (λ x. not (is_some x) && clear (with_flag f r) ps) (value_flagged q f r) ∙ ap (λ x. not (is_some (value_of q r)) && x) (clear_flagged f r ps)
+    ∙ swap (not (is_some (value_of q r))) (not (stands_in f ps)) (clear r ps)
+clear_flagged Spans r (flag Spans ∷ ps) = refl
+
+flag_next : (k : Bool) (ns : List Text) (f : Flag) (ps : List Part) → names_ok (k || not (is_empty ns)) ns ps ≡ names_ok k ns (flag f ∷ ps)
+flag_next true ns f ps = refl
+flag_next false [] f ps = refl
+flag_next false (n ∷ ns) f ps = refl
+
+ok_flagged : (c : Option Text) (f : Flag) (r : Read) (ps : List Part) → ok c (with_flag f r) ps ≡ ok c r (flag f ∷ ps)
+ok_flagged None f r ps = refl
+ok_flagged (Some c) Spans r ps = flag_next r.closed r.names Spans ps
+
+filled_flagged : (c : Text) (ns : List Text) (f : Flag) (r : Read) (ps : List Part) → stands f r ≡ false → filled c ns (with_flag f r) ps ≡ filled c ns r (flag f ∷ ps)
+filled_flagged c ns Spans r ps none = rw none refl
+
+keeps_names : (f : Flag) (r : Read) → (with_flag f r).names ≡ r.names
+keeps_names Spans r = refl
+
+keeps_command : (f : Flag) (r : Read) → (with_flag f r).command ≡ r.command
+keeps_command Spans r = refl
+
+result_flagged : (c : Option Text) (f : Flag) (r : Read) (ps : List Part) → stands f r ≡ false → result c (with_flag f r) ps ≡ result c r (flag f ∷ ps)
+result_flagged None f r ps none = go (bares ps)
+  where
+    go : (bs : List Text) → by_bares bs (with_flag f r) ps ≡ by_bares bs r (flag f ∷ ps)
+    go [] = refl
+    go (c ∷ ns) = ap (λ t. Some t) (filled_flagged c ns f r ps none)
+result_flagged (Some c) f r ps none = ap (λ ns. Some (filled c (ns ++ bares ps) (with_flag f r) ps)) (keeps_names f r) ∙ ap (λ t. Some t) (filled_flagged c (r.names ++ bares ps) f r ps none)
+
+flagged_expected : (c : Option Text) (f : Flag) (r : Read) (ps : List Part) → stands f r ≡ false → expected c (with_flag f r) ps ≡ expected c r (flag f ∷ ps)
+flagged_expected c f r ps once =
+    (λ i. cond (clear_flagged f r ps i && (is_once ps && ok_flagged c f r ps i)) (result_flagged c f r ps once i) None)
+    ∙ regroup (not (stands_in f ps)) (clear r ps) (is_once ps) (ok c r (flag f ∷ ps)) (result c r (flag f ∷ ps))
+    ∙ ap (λ x. cond ((not x && clear r ps) && ((not (stands_in f ps) && is_once ps) && ok c r (flag f ∷ ps))) (result c r (flag f ∷ ps)) None) (sym once)
+
+starts_flagged : (f : Flag) (r : Read) → Starts r → Starts (with_flag f r)
+starts_flagged Spans r st none = (still_open r.closed r.names (st none), (st none).1)
+
 -- ---- a word
 
-clear_same : (r s : Read) → ((o : Setting) → value_of o r ≡ value_of o s) → (ps : List Part) → clear r ps ≡ clear s ps
-clear_same r s h [] = refl
-clear_same r s h (bare w ∷ ps) = clear_same r s h ps
-clear_same r s h (valued o v ∷ ps) = λ i. not (is_some (h o i)) && clear_same r s h ps i
+clear_same : (r s : Read) → ((o : Setting) → value_of o r ≡ value_of o s) → ((f : Flag) → stands f r ≡ stands f s) → (ps : List Part) → clear r ps ≡ clear s ps
+clear_same r s h k [] = refl
+clear_same r s h k (bare w ∷ ps) = clear_same r s h k ps
+clear_same r s h k (flag f ∷ ps) = λ i. not (k f i) && clear_same r s h k ps i
+clear_same r s h k (valued o v ∷ ps) = λ i. not (is_some (h o i)) && clear_same r s h k ps i
 
 with_command : (w : Text) (r : Read) (ps : List Part) → (r.closed ≡ false) × (r.names ≡ [])
     → expected (Some w) (record r { command = Some w }) ps ≡ expected None r (bare w ∷ ps)
-with_command w r ps h = λ i. cond (clear_same (record r { command = Some w }) r by_setting ps i && (is_once ps && names_ok (h.0 i) (h.1 i) ps)) (Some (filled w (h.1 i ++ bares ps) r ps)) None
+with_command w r ps h = λ i. cond (clear_same (record r { command = Some w }) r by_setting by_flag ps i && (is_once ps && names_ok (h.0 i) (h.1 i) ps)) (Some (filled w (h.1 i ++ bares ps) r ps)) None
   where
+    by_flag : (f : Flag) → stands f (record r { command = Some w }) ≡ stands f r
+    by_flag Spans = refl
+
     by_setting : (o : Setting) → value_of o (record r { command = Some w }) ≡ value_of o r
     by_setting Limit = refl
     by_setting Workers = refl
@@ -205,8 +276,11 @@ never false b t = refl
 
 with_name : (c w : Text) (r : Read) (ps : List Part) → r.closed ≡ false
     → expected (Some c) (record r { names = r.names ++ w ∷ [] }) ps ≡ expected (Some c) r (bare w ∷ ps)
-with_name c w r ps free = λ i. cond (clear_same (record r { names = r.names ++ w ∷ [] }) r by_setting ps i && (is_once ps && names i)) (Some (filled c (append_assoc r.names (w ∷ []) (bares ps) i) r ps)) None
+with_name c w r ps free = λ i. cond (clear_same (record r { names = r.names ++ w ∷ [] }) r by_setting by_flag ps i && (is_once ps && names i)) (Some (filled c (append_assoc r.names (w ∷ []) (bares ps) i) r ps)) None
   where
+    by_flag : (f : Flag) → stands f (record r { names = r.names ++ w ∷ [] }) ≡ stands f r
+    by_flag Spans = refl
+
     by_setting : (o : Setting) → value_of o (record r { names = r.names ++ w ∷ [] }) ≡ value_of o r
     by_setting Limit = refl
     by_setting Workers = refl
@@ -236,14 +310,24 @@ option_expected r o v ps ih = go (is_some (value_of o r)) refl
     go true twice = ap (λ k. cond ((not k && clear r ps) && (is_once (valued o v ∷ ps) && ok r.command r (valued o v ∷ ps))) (result r.command r (valued o v ∷ ps)) None) (sym twice)
     go false once = ih ∙ ap (λ q. expected q (given o v r) ps) (same_command o v r) ∙ given_expected r.command o v r ps once
 
+flag_expected : (r : Read) (f : Flag) (ps : List Part) → run (with_flag f r) ps ≡ expected (with_flag f r).command (with_flag f r) ps
+    → cond (stands f r) None (run (with_flag f r) ps) ≡ expected r.command r (flag f ∷ ps)
+flag_expected r f ps ih = go (stands f r) refl
+  where
+    go : (k : Bool) → stands f r ≡ k → cond k None (run (with_flag f r) ps) ≡ expected r.command r (flag f ∷ ps)
+    go true twice = ap (λ k. cond ((not k && clear r ps) && (is_once (flag f ∷ ps) && ok r.command r (flag f ∷ ps))) (result r.command r (flag f ∷ ps)) None) (sym twice)
+    go false once = ih ∙ ap (λ q. expected q (with_flag f r) ps) (keeps_command f r) ∙ flagged_expected r.command f r ps once
+
 runs : (r : Read) (ps : List Part) → Starts r → run r ps ≡ expected r.command r ps
 runs r [] st = at_end r.command r
 runs r (valued o v ∷ ps) st = option_expected r o v ps (runs (given o v r) ps (starts_given o v r st))
+runs r (flag f ∷ ps) st = flag_expected r f ps (runs (with_flag f r) ps (starts_flagged f r st))
 runs r (bare w ∷ ps) st = bare_expected r.command r w ps refl st (λ next s. runs next ps s)
 
 all_clear : (ps : List Part) → clear nothing ps ≡ true
 all_clear [] = refl
 all_clear (bare w ∷ ps) = all_clear ps
+all_clear (flag Spans ∷ ps) = all_clear ps
 all_clear (valued Limit v ∷ ps) = all_clear ps
 all_clear (valued Workers v ∷ ps) = all_clear ps
 all_clear (valued Waves v ∷ ps) = all_clear ps

@@ -1,26 +1,26 @@
 -- A plain list is taken, and its matches are its reading.
-use Rattle.std.proofs.Common.{◌≡◌, ◌∙◌, ◌≤◌, ◌+◌, ◌&&◌, ℕ, Bool, cond, true, false, not, refl, sym, ap, subst, arith, List, [], ◌∷◌, length, codes, Option, Some, None, is_some, inl, inr, true≢false}
+use Rattle.std.proofs.Common.{◌≡◌, ◌∙◌, ◌≤◌, ◌+◌, ◌&&◌, ℕ, Bool, true, false, not, refl, sym, ap, subst, arith, List, [], ◌∷◌, length, codes, Option, Some, None, is_some, true≢false}
 use Rattle.std.specs.Option.{option_map, option_and_then}
 use Rattle.std.specs.List.{fold, list_all}
 use Rattle.std.specs.Prelude.{slice_get}
-use Rattle.std.proofs.lemmas.Bool.{and_parts}
-use Rattle.clap.specs.declared.builder.value_parser.Reading.{Reading}
 use Rattle.std.specs.Str.{bytes_eq}
-use Rattle.std.proofs.lemmas.Bool.{cases_Bool}
-use Rattle.std.proofs.lemmas.Option.{none-some, option_and_then_some, cond_some}
+use Rattle.std.proofs.lemmas.Option.{option_and_then_some, cond_some}
 use Rattle.clap.specs.Lexer.{usize_max}
-use Rattle.clap.specs.Walk.{rows_of, default_rows, with_default, has_row, reading_by, Rule, Held, Text, Walk, Row, walked, walk_from, nothing_held, finished, all_of, first_of}
-use Rattle.clap.specs.Takes.{entered_passes, default_passes, settle_passes, walk_passes, is_valid, is_given, takes}
+use Rattle.clap.specs.Walk.{rows_of, with_default, Held, Text, Walk, Row, walked, walk_from, nothing_held, finished, all_of, first_of, one_of}
+use Rattle.clap.specs.Takes.{entered_passes, default_passes, settle_passes, walk_passes, is_valid, takes}
 use Rattle.clap.specs.Simple.{built, entered, matches_of, HasMatchesOf}
 use Rattle.clap.specs.Matches.{found_of}
 use Rattle.clap.specs.declared.parser.matches.ArgMatches.{ArgMatches}
 use Rattle.std.specs.Option.{unwrap_or}
 use Rattle.bs_words.specs.App.{words_app}
-use Rattle.bs_words.specs.Plain.{is_empty, Read, nothing, step, read_from, ended, plain}
+use Rattle.bs_words.specs.Plain.{Read, nothing, stands, step, read_from, ended, plain}
+use Rattle.bs_words.specs.declared.flag.Flag.{Flag}
+use Rattle.bs_words.specs.declared.flag.Flag.TheVariants.{Spans}
 use Rattle.bs_words.specs.declared.setting.Setting.TheVariants.{Limit, Workers, Waves, Journal}
-use Rattle.bs_words.proofs.Uses.{Use, rows, lookup, found}
-use Rattle.bs_words.proofs.Walks.{At, start, one, many, waits, Id, setting, command, id_of, uses_of, held_of, walk_at, IsValued, growing, rules, shape, settle_is, settle_ok}
-use Rattle.bs_words.proofs.Turns.{Good, turned, place_of, expect, some_names}
+use Rattle.bs_words.proofs.Defaults.{flag_text, rows_with, defaults_are, given_row, found_with, one_with}
+use Rattle.bs_words.proofs.Uses.{lookup}
+use Rattle.bs_words.proofs.Walks.{At, free, flag_name, one, many, waits, Id, setting, command, id_of, uses_of, held_of, walk_at, IsValued, growing, rules, shape, settle_is, settle_ok}
+use Rattle.bs_words.proofs.Turns.{Good, turned, place_of, expect, expect_flag, some_names}
 
 -- after all the words
 pub record Walked (e : Read) (w : Walk) (words : List Text) : Type 0 where
@@ -58,15 +58,19 @@ walks r e s (w ∷ words) g room is = option_and_then_some (λ next. read_from n
 
 -- ---- the end
 
-begins : Good nothing start
+begins : Good nothing (free [])
 begins = record {
   seen = λ i. by_id i;
+  flags = λ f. by_flag f;
   names = refl;
   new = tt;
   fits = (refl, λ _. refl);
   ordered = λ _. refl;
 }
   where
+    by_flag : (f : Flag) → lookup (flag_name f) [] ≡ expect_flag (stands f nothing)
+    by_flag Spans = refl
+
     by_id : (i : Id) → lookup (id_of i) [] ≡ expect i nothing
     by_id (setting Limit) = refl
     by_id (setting Workers) = refl
@@ -76,17 +80,10 @@ begins = record {
 
 -- no option waits at the end, and there is a command
 valued : (e : Read) (s : At) → Good e s → ended e ≡ Some e → IsValued s
-valued e start g is = tt
+valued e (free us) g is = tt
 valued e (one us i v) g is = tt
 valued e (many us v vs) g is = tt
 valued e (waits us o) g is = absurd (true≢false (sym (cond_some _ e e is).0 ∙ ap (λ q. not (is_some q) && is_some e.command) g.fits.0))
-
-given_row : (k : Text) (us : List Use) (vs : List Text) → lookup k us ≡ Some vs → is_given k (rows us) ≡ true
-given_row k [] vs e = absurd (none-some vs e)
-given_row k (u ∷ us) vs e = elim (cases_Bool (bytes_eq u.0 k)) [
-  | inl same ↦ rw same refl
-  | inr other ↦ rw other (given_row k us vs (rw other at e))
-]
 
 and_false : (k : Bool) → (k && false) ≡ false
 and_false true = refl
@@ -99,22 +96,8 @@ has_command e is = go e.command refl (cond_some _ e e is).0
     go (Some c) this b = (c, this)
     go None this b = absurd (true≢false (sym b ∙ ap (λ q. not (is_some e.waits) && is_some q) this ∙ and_false (not (is_some e.waits))))
 
-same_both : {A : Type 0} (k : Bool) (x : A) → cond k x x ≡ x
-same_both true x = refl
-same_both false x = refl
-
-no_default : (t : Text) (how : Reading) (ds : List Text) (rs : List Row) → is_empty ds ≡ true → default_rows t how ds rs ≡ rs
-no_default t how [] rs e = refl
-no_default t how (d ∷ ds) rs e = absurd (true≢false (sym e))
-
-no_defaults : (all : List Rule) (rs : List Row) → list_all (λ (a : Rule). is_empty a.defaults) all ≡ true → fold with_default rs all ≡ rs
-no_defaults [] rs e = refl
-no_defaults (a ∷ all) rs e =
-    let both = and_parts (is_empty a.defaults) (list_all (λ (x : Rule). is_empty x.defaults) all) e in
-    ap (λ x. fold with_default x all) (ap (cond (has_row a.id rs) rs) (no_default a.id (reading_by a) a.defaults rs both.0) ∙ same_both (has_row a.id rs) rs) ∙ no_defaults all rs both.1
-
-finished_is : (e : Read) (s : At) → IsValued s → Good e s → finished rules (held_of s) ≡ rows (uses_of s)
-finished_is e s v g = no_defaults rules _ refl ∙ ap (λ (h : Held). h.rows) (settle_is s v g.new)
+finished_is : (e : Read) (s : At) → IsValued s → Good e s → finished rules (held_of s) ≡ rows_with e.spans (uses_of s)
+finished_is e s v g = ap (λ (h : Held). fold with_default h.rows rules) (settle_is s v g.new) ∙ defaults_are e.spans (uses_of s) (g.flags Spans)
 
 -- what the tests of the end say of the last place
 abbrev after : Walk → List Text → Bool
@@ -125,11 +108,11 @@ at_end : (e : Read) (s : At) (p : ℕ) (words : List Text) → Good e s → grow
 at_end e s p words g room is passes =
     let v = valued e s g is in
     let c = has_command e is in
-    let given = given_row (codes "command") (uses_of s) (c.0 ∷ []) (g.seen command ∙ ap (option_map (λ x. x ∷ [])) c.1) in
+    let given = given_row e.spans (codes "command") (uses_of s) (c.0 ∷ []) (g.seen command ∙ ap (option_map (λ x. x ∷ [])) c.1) in
     rw (passes, settle_ok s v g.new room, finished_is e s v g, given) refl
 
-from_words : (words : List Text) (e : Read) → length words ≤ usize_max → plain words ≡ Some e → Walked e (walk_at start 1) words
-from_words words e room is = walks nothing e start words begins (omega (arith, room)) is
+from_words : (words : List Text) (e : Read) → length words ≤ usize_max → plain words ≡ Some e → Walked e (walk_at (free []) 1) words
+from_words words e room is = walks nothing e (free []) words begins (omega (arith, room)) is
 
 pub takes_plain : (words : List Text) (e : Read) → length words ≤ usize_max → plain words ≡ Some e → takes words_app words ≡ true
 takes_plain words e room is =
@@ -154,22 +137,31 @@ pub record IsRead (e : Read) (rs : List Row) : Type 0 where
   pub workers : first_of (codes "workers") rs ≡ e.workers
   pub waves : first_of (codes "waves") rs ≡ e.waves
   pub journal : first_of (codes "journal") rs ≡ e.journal
+  pub spans : one_of (codes "spans") rs ≡ Some (flag_text e.spans)
   pub names : all_of (codes "names") rs ≡ some_names e.names
 
-first_in : (e : Read) (s : At) (i : Id) (v : Option Text) → Good e s → expect i e ≡ option_map (λ x. x ∷ []) v → first_of (id_of i) (rows (uses_of s)) ≡ v
-first_in e s i v g is = first_by_values _ ∙ ap first_value_of (found (id_of i) (uses_of s) ∙ g.seen i ∙ is) ∙ first_of_one v
+no_flag : (i : Id) → bytes_eq (codes "spans") (id_of i) ≡ false
+no_flag (setting Limit) = refl
+no_flag (setting Workers) = refl
+no_flag (setting Waves) = refl
+no_flag (setting Journal) = refl
+no_flag command = refl
+
+first_in : (e : Read) (s : At) (i : Id) (v : Option Text) → Good e s → expect i e ≡ option_map (λ x. x ∷ []) v → first_of (id_of i) (rows_with e.spans (uses_of s)) ≡ v
+first_in e s i v g is = first_by_values _ ∙ ap first_value_of (found_with e.spans (id_of i) (uses_of s) (no_flag i) ∙ g.seen i ∙ is) ∙ first_of_one v
 
 pub matches_plain : (words : List Text) (e : Read) → length words ≤ usize_max → plain words ≡ Some e → IsRead e (matches_of words_app words)
 matches_plain words e room is =
     let m = from_words words e room is in
-    let rows_are : matches_of words_app words ≡ rows (uses_of m.to) = ap (λ (w : Walk). finished rules w.held) m.walk ∙ finished_is e m.to (valued e m.to m.good m.ended) m.good in
+    let rows_are : matches_of words_app words ≡ rows_with e.spans (uses_of m.to) = ap (λ (w : Walk). finished rules w.held) m.walk ∙ finished_is e m.to (valued e m.to m.good m.ended) m.good in
     subst (IsRead e) (sym rows_are) (record {
       command = first_in e m.to command e.command m.good refl;
       limit = first_in e m.to (setting Limit) e.limit m.good refl;
       workers = first_in e m.to (setting Workers) e.workers m.good refl;
       waves = first_in e m.to (setting Waves) e.waves m.good refl;
       journal = first_in e m.to (setting Journal) e.journal m.good refl;
-      names = found (codes "names") (uses_of m.to) ∙ m.good.names;
+      spans = one_with e.spans (uses_of m.to) (m.good.flags Spans);
+      names = found_with e.spans (codes "names") (uses_of m.to) refl ∙ m.good.names;
     })
 
 -- ---- for the function that parses

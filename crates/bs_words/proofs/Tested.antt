@@ -1,8 +1,10 @@
 -- The test of a list and its reading agree.
 use Rattle.std.proofs.Common.{◌≡◌, ◌∙◌, ◌&&◌, Bool, cond, true, false, not, refl, ap, List, [], ◌∷◌, ◌++◌, Option, Some, None, is_some}
 use Rattle.std.specs.Option.{option_map, option_map_or, option_and_then}
-use Rattle.bs_words.specs.Plain.{Text, Read, is_empty, is_dashed, setting_of, step, by_waits, begun, named, read_from, ended, value_of, with_value}
-use Rattle.bs_words.specs.Seen.{seen_of, has, with_seen, seen_option, seen_name, seen_word, seen_step, seen_end, seen_from}
+use Rattle.bs_words.specs.Plain.{Text, Read, is_empty, is_dashed, setting_of, flag_of, with_flag, flagged, dashed, step, by_waits, begun, named, read_from, ended, value_of, with_value}
+use Rattle.bs_words.specs.Seen.{seen_of, has, with_seen, seen_option, seen_flag, seen_dashed, seen_name, seen_word, seen_step, seen_end, seen_from}
+use Rattle.bs_words.specs.declared.flag.Flag.{Flag}
+use Rattle.bs_words.specs.declared.flag.Flag.TheVariants.{Spans}
 use Rattle.bs_words.specs.declared.setting.Setting.{Setting}
 use Rattle.bs_words.specs.declared.setting.Setting.TheVariants.{Limit, Workers, Waves, Journal}
 use Rattle.bs_words.specs.declared.plain.Seen.{Seen}
@@ -30,6 +32,13 @@ option_same : (o : Option Setting) (r : Read) → seen_option o (seen_of r) ≡ 
 option_same None r = refl
 option_same (Some o) r = option_cond (has o (seen_of r)) (is_some (value_of o r)) _ _ (has_same o r) refl
 
+flag_same : (f : Flag) (r : Read) → seen_flag f (seen_of r) ≡ option_map seen_of (flagged f r)
+flag_same Spans r = map_cond r.spans None (Some (with_flag Spans r)) None (Some (seen_of (with_flag Spans r))) refl refl
+
+dashed_same : (q : Option Flag) (w : Text) (r : Read) → seen_dashed q w (seen_of r) ≡ option_map seen_of (dashed q w r)
+dashed_same (Some f) w r = flag_same f r
+dashed_same None w r = option_same (setting_of w) r
+
 not_empty : (ns : List Text) (w : Text) → true ≡ not (is_empty (ns ++ w ∷ []))
 not_empty [] w = refl
 not_empty (n ∷ ns) w = refl
@@ -43,7 +52,7 @@ name_same w r = name_by r.command w r refl
 
 word_same : (q : Option Setting) (w : Text) (r : Read) → seen_word q w (seen_of r) ≡ option_map seen_of (by_waits q w r)
 word_same (Some o) w r = map_cond (is_dashed w) None _ None _ refl (ap (λ s. Some s) (with_same o w r))
-word_same None w r = map_cond (is_dashed w) _ _ _ _ (option_same (setting_of w) r) (name_same w r)
+word_same None w r = map_cond (is_dashed w) _ _ _ _ (dashed_same (flag_of w) w r) (name_same w r)
 
 step_same : (w : Text) (r : Read) → seen_step w (seen_of r) ≡ option_map seen_of (step w r)
 step_same [] r = refl

@@ -11,6 +11,7 @@ pub record IsReading (r : Read) (x : Reading) : Type 0 where
   pub workers : option_map (λ n. n.now) x.workers ≡ r.workers
   pub waves : option_map (λ n. n.now) x.waves ≡ r.waves
   pub journal : option_map (λ n. n.now) x.journal ≡ r.journal
+  pub spans : x.spans ≡ r.spans
 
 pub texts_from : (r : Read) (x : Reading) → IsReading r x → texts_in r ≡ Some (texts_of x)
 texts_from r x h = λ i. option_map (λ c. record {
@@ -20,4 +21,5 @@ texts_from r x h = λ i. option_map (λ c. record {
   workers = (sym h.workers) i;
   waves = (sym h.waves) i;
   journal = (sym h.journal) i;
+  spans = (sym h.spans) i;
 }) (h.command i)

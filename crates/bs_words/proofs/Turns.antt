@@ -7,17 +7,23 @@ use Rattle.std.proofs.lemmas.Bool.{cases_Bool}
 use Rattle.std.proofs.lemmas.Option.{none-some, same_Some}
 use Rattle.std.proofs.lemmas.Slice.Eq.{bytes_eq-Decides}
 use Rattle.clap.specs.Lexer.{usize_max}
-use Rattle.clap.specs.Walk.{Text, Held, Walk, option, positional, walked, value}
+use Rattle.clap.specs.Walk.{Text, Held, Walk, has_row, idle, option, positional, walked, value}
 use Rattle.clap.specs.Takes.{turn_passes, step_passes, settle_passes}
-use Rattle.bs_words.specs.Plain.{Read, setting_of, is_empty, step, value_of, with_value, begun, named, by_waits}
+use Rattle.bs_words.specs.Plain.{Read, setting_of, is_empty, step, value_of, flag_of, stands, with_flag, flagged, dashed, with_value, begun, named, by_waits}
+use Rattle.bs_words.specs.declared.flag.Flag.{Flag}
+use Rattle.bs_words.specs.declared.flag.Flag.TheVariants.{Spans}
 use Rattle.bs_words.specs.declared.setting.Setting.{Setting}
 use Rattle.bs_words.specs.declared.setting.Setting.TheVariants.{Limit, Workers, Waves, Journal}
-use Rattle.bs_words.proofs.Uses.{Use, lookup, lookup_last}
-use Rattle.bs_words.proofs.Walks.{At, start, one, many, waits, Id, setting, command, name_of, id_of, many_id, word_of, uses_of, held_of, waiting_of, walk_at, walk_with, IsNew, IsValued, growing, IsPlainWait, rules, shape, settle_is, settle_ok, plain_walked, plain_turn, to_command, to_names, to_more, option_walked, option_turn, waits_after, value_walked, value_turn}
+use Rattle.bs_words.proofs.Uses.{Use, lookup, lookup_last, has_none}
+use Rattle.bs_words.proofs.Walks.{At, free, flag_name, flag_word, flag_use, flag_held, flag_walked, flag_turn, held_with, set_row, one, many, waits, Id, setting, command, name_of, id_of, many_id, word_of, uses_of, held_of, waiting_of, walk_at, walk_with, IsNew, IsValued, growing, IsPlainWait, rules, shape, settle_is, settle_ok, plain_walked, plain_turn, to_command, to_names, to_more, option_walked, option_turn, waits_after, value_walked, value_turn}
 
 abbrev pub expect : Id → Read → Option (List Text)
 expect (setting o) r = option_map (λ v. v ∷ []) (value_of o r)
 expect command r = option_map (λ v. v ∷ []) r.command
+
+abbrev pub expect_flag : Bool → Option (List Text)
+expect_flag true = Some (codes "true" ∷ [])
+expect_flag false = None
 
 abbrev pub some_names : List Text → Option (List Text)
 some_names [] = None
@@ -28,13 +34,14 @@ place_of None = 1
 place_of (Some c) = 2
 
 abbrev pub Fits : Read → At → Type 0
-Fits r start = (r.waits ≡ None) × (r.closed ≡ false → r.names ≡ [])
+Fits r (free us) = (r.waits ≡ None) × (r.closed ≡ false → r.names ≡ [])
 Fits r (one us i v) = (r.waits ≡ None) × (r.closed ≡ false → r.names ≡ [])
 Fits r (many us v vs) = (r.waits ≡ None) × (r.names ≡ v ∷ vs)
 Fits r (waits us o) = (r.waits ≡ Some o) × (r.closed ≡ false → r.names ≡ [])
 
 pub record Good (r : Read) (s : At) : Type 0 where
   pub seen : (i : Id) → lookup (id_of i) (uses_of s) ≡ expect i r
+  pub flags : (f : Flag) → lookup (flag_name f) (uses_of s) ≡ expect_flag (stands f r)
   pub names : lookup many_id (uses_of s) ≡ some_names r.names
   pub new : IsNew s
   pub fits : Fits r s
@@ -77,6 +84,12 @@ not_many Workers w f = refl
 not_many Waves w f = refl
 not_many Journal w f = refl
 
+not_flag : (o : Setting) (f : Flag) (ws : List Text) (found : Option (List Text)) → cond (bytes_eq (name_of o) (flag_name f)) (Some ws) found ≡ found
+not_flag Limit Spans ws found = refl
+not_flag Workers Spans ws found = refl
+not_flag Waves Spans ws found = refl
+not_flag Journal Spans ws found = refl
+
 -- what a value leaves
 keeps : (o : Setting) (w : Text) (r : Read) → (with_value o w r).command ≡ r.command
 keeps Limit w r = refl
@@ -89,6 +102,12 @@ keeps_names Limit w r = refl
 keeps_names Workers w r = refl
 keeps_names Waves w r = refl
 keeps_names Journal w r = refl
+
+keeps_flags : (o : Setting) (f : Flag) (w : Text) (r : Read) → stands f (with_value o w r) ≡ stands f r
+keeps_flags Limit Spans w r = refl
+keeps_flags Workers Spans w r = refl
+keeps_flags Waves Spans w r = refl
+keeps_flags Journal Spans w r = refl
 
 keeps_closed : (o : Setting) (w : Text) (r : Read) → (with_value o w r).closed ≡ r.closed
 keeps_closed Limit w r = refl
@@ -108,9 +127,10 @@ value_turned r us o b bs g e = record {
   to = one us (setting o) (b ∷ bs);
   good = record {
     seen = λ i. lookup_last us (name_of o) ((b ∷ bs) ∷ []) (id_of i) g.new ∙ ap (cond (bytes_eq (name_of o) (id_of i)) (Some ((b ∷ bs) ∷ []))) (g.seen i) ∙ with_given o i (b ∷ bs) r;
+    flags = λ f. lookup_last us (name_of o) ((b ∷ bs) ∷ []) (flag_name f) g.new ∙ not_flag o f _ _ ∙ g.flags f ∙ ap expect_flag (sym (keeps_flags o f (b ∷ bs) r));
     names = lookup_last us (name_of o) ((b ∷ bs) ∷ []) many_id g.new ∙ not_many o (b ∷ bs) _ ∙ g.names ∙ ap some_names (sym (keeps_names o (b ∷ bs) r));
     new = g.new;
-    fits = (clears o (b ∷ bs) r, λ free. keeps_names o (b ∷ bs) r ∙ g.fits.1 (sym (keeps_closed o (b ∷ bs) r) ∙ free));
+    fits = (clears o (b ∷ bs) r, λ still. keeps_names o (b ∷ bs) r ∙ g.fits.1 (sym (keeps_closed o (b ∷ bs) r) ∙ still));
     ordered = λ none. keeps_names o (b ∷ bs) r ∙ g.ordered (sym (keeps o (b ∷ bs) r) ∙ none);
   };
   grows = omega arith;
@@ -160,6 +180,9 @@ same_setting o (setting Workers) r q k = refl
 same_setting o (setting Waves) r q k = refl
 same_setting o (setting Journal) r q k = refl
 
+same_flags : (f : Flag) (r : Read) (q : Option Setting) (k : Bool) → stands f (record r { waits = q; closed = k }) ≡ stands f r
+same_flags Spans r q k = refl
+
 option_turned : (r : Read) (s : At) (o : Setting) → Good r s → IsValued s → IsPlainWait (waiting_of s) → growing s ≤ usize_max → is_some (value_of o r) ≡ false
     → Turned r s (word_of o) (begin o r)
 unfolding begin
@@ -167,6 +190,7 @@ option_turned r s o g v plain room none = record {
   to = waits (uses_of s) o;
   good = record {
     seen = λ i. g.seen i ∙ sym (same_setting o i r _ _);
+    flags = λ f. g.flags f ∙ ap expect_flag (sym (same_flags f r _ _));
     names = g.names;
     new = id_of_setting o ∙ g.seen (setting o) ∙ none_given o r none;
     fits = (refl, still_none r.closed r.names);
@@ -180,6 +204,61 @@ option_turned r s o g v plain room none = record {
     id_of_setting : (o : Setting) → lookup (name_of o) (uses_of s) ≡ lookup (id_of (setting o)) (uses_of s)
     id_of_setting o = refl
 
+-- ---- an option without a value
+
+waits_none : (r : Read) (s : At) → IsValued s → Fits r s → r.waits ≡ None
+waits_none r (free us) v f = f.0
+waits_none r (one us i w) v f = f.0
+waits_none r (many us w ws) v f = f.0
+waits_none r (waits us o) v f = absurd v
+
+flag_is : (w : Text) (f : Flag) → flag_of w ≡ Some f → w ≡ flag_word f
+flag_is w f e = elim (cases_Bool (bytes_eq w (codes "--spans"))) [
+  | inl hit ↦ (bytes_eq-Decides w (codes "--spans")).0 hit ∙ ap flag_word (same_Some Spans f (rw hit at e))
+  | inr miss ↦ absurd (none-some f (rw miss at e))
+]
+
+not_id : (f : Flag) (i : Id) (ws : List Text) (found : Option (List Text)) → cond (bytes_eq (flag_name f) (id_of i)) (Some ws) found ≡ found
+not_id Spans (setting Limit) ws found = refl
+not_id Spans (setting Workers) ws found = refl
+not_id Spans (setting Waves) ws found = refl
+not_id Spans (setting Journal) ws found = refl
+not_id Spans command ws found = refl
+
+keeps_seen : (f : Flag) (i : Id) (r : Read) → expect i (with_flag f r) ≡ expect i r
+keeps_seen Spans (setting Limit) r = refl
+keeps_seen Spans (setting Workers) r = refl
+keeps_seen Spans (setting Waves) r = refl
+keeps_seen Spans (setting Journal) r = refl
+keeps_seen Spans command r = refl
+
+is_flag : (f g : Flag) (r : Read) (found : Option (List Text)) → cond (bytes_eq (flag_name f) (flag_name g)) (Some (codes "true" ∷ [])) found ≡ expect_flag (stands g (with_flag f r))
+is_flag Spans Spans r found = refl
+
+abbrev after_flag : Flag → ℕ → Held → Walk
+after_flag f p h = walk_with (flag_held f h) idle p
+
+flag_turned : (r : Read) (s : At) (f : Flag) → Good r s → IsValued s → IsPlainWait (waiting_of s) → growing s ≤ usize_max → stands f r ≡ false
+    → Turned r s (flag_word f) (with_flag f r)
+flag_turned r s Spans g v plain room none =
+    let fresh : lookup (codes "spans") (uses_of s) ≡ None = g.flags Spans ∙ ap expect_flag none in
+    record {
+      to = free (uses_of s ++ flag_use Spans ∷ []);
+      good = record {
+        seen = λ i. lookup_last (uses_of s) (codes "spans") (codes "true" ∷ []) (id_of i) fresh ∙ not_id Spans i _ _ ∙ g.seen i ∙ sym (keeps_seen Spans i r);
+        flags = λ f. lookup_last (uses_of s) (codes "spans") (codes "true" ∷ []) (flag_name f) fresh ∙ is_flag Spans f r _;
+        names = lookup_last (uses_of s) (codes "spans") (codes "true" ∷ []) many_id fresh ∙ g.names;
+        new = tt;
+        fits = (waits_none r s v g.fits, still_none r.closed r.names);
+        ordered = g.ordered;
+      };
+      grows = omega arith;
+      walk = flag_walked Spans (held_of s) (waiting_of s) (place_of r.command) plain ∙ ap (after_flag Spans (place_of r.command)) (settle_is s v g.new)
+          ∙ ap (λ rs. walk_with (held_with rs) idle (place_of r.command)) (set_row (codes "spans") (codes "true" ∷ []) (uses_of s) fresh);
+      passes = flag_turn Spans (held_of s) (waiting_of s) (place_of r.command) plain (settle_ok s v g.new room)
+          (ap (λ (h : Held). has_row (codes "spans") h.rows) (settle_is s v g.new) ∙ has_none (codes "spans") (uses_of s) fresh);
+    }
+
 -- ---- the command and the names
 
 or_true : (a : Bool) → (a || true) ≡ true
@@ -192,18 +271,18 @@ step_one s e = rw e (or_true _)
 step_two : (s : At) → settle_passes rules false (held_of s) ≡ true → step_passes shape 2 (held_of s) value ≡ true
 step_two s e = rw e (or_true _)
 
-waits_none : (r : Read) (s : At) → IsValued s → Fits r s → r.waits ≡ None
-waits_none r start v f = f.0
-waits_none r (one us i w) v f = f.0
-waits_none r (many us w ws) v f = f.0
-waits_none r (waits us o) v f = absurd v
-
 with_command : (i : Id) (w : Text) (r : Read) → cond (bytes_eq (codes "command") (id_of i)) (Some (w ∷ [])) (expect i r) ≡ expect i (record r { command = Some w })
 with_command (setting Limit) w r = refl
 with_command (setting Workers) w r = refl
 with_command (setting Waves) w r = refl
 with_command (setting Journal) w r = refl
 with_command command w r = refl
+
+flag_not_command : (f : Flag) (ws : List Text) (found : Option (List Text)) → cond (bytes_eq (codes "command") (flag_name f)) (Some ws) found ≡ found
+flag_not_command Spans ws found = refl
+
+same_by_command : (f : Flag) (c : Option Text) (r : Read) → stands f (record r { command = c }) ≡ stands f r
+same_by_command Spans c r = refl
 
 command_turned : (r : Read) (s : At) (b : ℕ) (bs : Text) → Good r s → IsValued s → IsPlainWait (waiting_of s) → growing s ≤ usize_max → r.command ≡ None → (b == 45) ≡ false
     → Turned r s (b ∷ bs) (record r { command = Some (b ∷ bs) })
@@ -213,6 +292,7 @@ command_turned r s b bs g v plain room none e =
       to = one (uses_of s) command (b ∷ bs);
       good = record {
         seen = λ i. lookup_last (uses_of s) (codes "command") ((b ∷ bs) ∷ []) (id_of i) fresh ∙ ap (cond (bytes_eq (codes "command") (id_of i)) (Some ((b ∷ bs) ∷ []))) (g.seen i) ∙ with_command i (b ∷ bs) r;
+        flags = λ f. lookup_last (uses_of s) (codes "command") ((b ∷ bs) ∷ []) (flag_name f) fresh ∙ flag_not_command f _ _ ∙ g.flags f ∙ ap expect_flag (sym (same_by_command f _ r));
         names = lookup_last (uses_of s) (codes "command") ((b ∷ bs) ∷ []) many_id fresh ∙ g.names;
         new = fresh;
         fits = (waits_none r s v g.fits, λ _. g.ordered none);
@@ -237,6 +317,12 @@ same_names (setting Waves) w r = refl
 same_names (setting Journal) w r = refl
 same_names command w r = refl
 
+flag_not_names : (f : Flag) (ws : List Text) (found : Option (List Text)) → cond (bytes_eq many_id (flag_name f)) (Some ws) found ≡ found
+flag_not_names Spans ws found = refl
+
+same_by_names : (f : Flag) (ns : List Text) (r : Read) → stands f (record r { names = ns }) ≡ stands f r
+same_by_names Spans ns r = refl
+
 -- the first name
 name_turned : (r : Read) (s : At) (c : Text) (b : ℕ) (bs : Text) → Good r s → IsValued s → IsPlainWait (waiting_of s) → growing s ≡ 0 → r.command ≡ Some c → r.names ≡ [] → (b == 45) ≡ false
     → Turned r s (b ∷ bs) (record r { names = r.names ++ (b ∷ bs) ∷ [] })
@@ -247,6 +333,7 @@ name_turned r s c b bs g v plain zero some empty e =
       to = many (uses_of s) (b ∷ bs) [];
       good = record {
         seen = λ i. lookup_last (uses_of s) many_id ((b ∷ bs) ∷ []) (id_of i) fresh ∙ not_names i _ _ ∙ g.seen i ∙ sym (same_names i _ r);
+        flags = λ f. lookup_last (uses_of s) many_id ((b ∷ bs) ∷ []) (flag_name f) fresh ∙ flag_not_names f _ _ ∙ g.flags f ∙ ap expect_flag (sym (same_by_names f _ r));
         names = lookup_last (uses_of s) many_id ((b ∷ bs) ∷ []) many_id fresh ∙ ap some_names (sym all);
         new = fresh;
         fits = (waits_none r s v g.fits, all);
@@ -266,6 +353,8 @@ more_turned r us x xs c b bs g room some e =
       to = many us x (xs ++ (b ∷ bs) ∷ []);
       good = record {
         seen = λ i. lookup_last us many_id (x ∷ (xs ++ (b ∷ bs) ∷ [])) (id_of i) g.new ∙ not_names i _ _ ∙ sym (not_names i (x ∷ xs) _) ∙ sym (lookup_last us many_id (x ∷ xs) (id_of i) g.new) ∙ g.seen i ∙ sym (same_names i _ r);
+        flags = λ f. lookup_last us many_id (x ∷ (xs ++ (b ∷ bs) ∷ [])) (flag_name f) g.new ∙ flag_not_names f _ _ ∙ sym (flag_not_names f (x ∷ xs) _) ∙ sym (lookup_last us many_id (x ∷ xs) (flag_name f) g.new) ∙ g.flags f
+            ∙ ap expect_flag (sym (same_by_names f _ r));
         names = lookup_last us many_id (x ∷ (xs ++ (b ∷ bs) ∷ [])) many_id g.new ∙ ap some_names (sym all);
         new = g.new;
         fits = (g.fits.0, all);
@@ -279,7 +368,7 @@ more_turned r us x xs c b bs g room some e =
 -- ---- any word
 
 plain_wait : (s : At) → IsValued s → IsPlainWait (waiting_of s)
-plain_wait start v = tt
+plain_wait (free us) v = tt
 plain_wait (one us i w) v = tt
 plain_wait (many us w ws) v = tt
 plain_wait (waits us o) v = absurd v
@@ -300,10 +389,10 @@ any_name r next s c b bs g v room some e is =
     subst (Turned r s (b ∷ bs)) cut.1 (by_at s g v room cut.0)
   where
     by_at : (s : At) → Good r s → IsValued s → growing s ≤ usize_max → r.closed ≡ false → Turned r s (b ∷ bs) (record r { names = r.names ++ (b ∷ bs) ∷ [] })
-    by_at start g v room free = name_turned r start c b bs g v tt refl some (g.fits.1 free) e
-    by_at (one us i w) g v room free = name_turned r (one us i w) c b bs g v tt refl some (g.fits.1 free) e
-    by_at (many us x xs) g v room free = more_turned r us x xs c b bs g room some e
-    by_at (waits us o) g v room free = absurd v
+    by_at (free us) g v room still = name_turned r (free us) c b bs g v tt refl some (g.fits.1 still) e
+    by_at (one us i w) g v room still = name_turned r (one us i w) c b bs g v tt refl some (g.fits.1 still) e
+    by_at (many us x xs) g v room still = more_turned r us x xs c b bs g room some e
+    by_at (waits us o) g v room still = absurd v
 
 any_plain : (r next : Read) (s : At) (b : ℕ) (bs : Text) → Good r s → IsValued s → growing s ≤ usize_max → (b == 45) ≡ false
     → named r.command (b ∷ bs) r ≡ Some next → Turned r s (b ∷ bs) next
@@ -323,11 +412,23 @@ any_option r next s w g v room is = go (setting_of w) refl is
         let cut = not_cut (is_some (value_of o r)) (begin o r) next is in
         subst (λ x. Turned r s x next) (sym (setting_is w o some)) (subst (Turned r s (word_of o)) cut.1 (option_turned r s o g v (plain_wait s v) room cut.0))
 
+any_flag : (r next : Read) (s : At) (w : Text) (f : Flag) → Good r s → IsValued s → growing s ≤ usize_max → flag_of w ≡ Some f → flagged f r ≡ Some next → Turned r s w next
+any_flag r next s w f g v room some is =
+    let cut = not_cut (stands f r) (with_flag f r) next is in
+    subst (λ x. Turned r s x next) (sym (flag_is w f some)) (subst (Turned r s (flag_word f)) cut.1 (flag_turned r s f g v (plain_wait s v) room cut.0))
+
+any_dashed : (r next : Read) (s : At) (w : Text) → Good r s → IsValued s → growing s ≤ usize_max → dashed (flag_of w) w r ≡ Some next → Turned r s w next
+any_dashed r next s w g v room is = go (flag_of w) refl is
+  where
+    go : (q : Option Flag) → flag_of w ≡ q → dashed q w r ≡ Some next → Turned r s w next
+    go None none is = any_option r next s w g v room is
+    go (Some f) some is = any_flag r next s w f g v room some is
+
 any_valued : (r next : Read) (s : At) (b : ℕ) (bs : Text) → Good r s → IsValued s → growing s ≤ usize_max → by_waits r.waits (b ∷ bs) r ≡ Some next → Turned r s (b ∷ bs) next
 any_valued r next s b bs g v room is =
     let none : by_waits None (b ∷ bs) r ≡ Some next = ap (λ q. by_waits q (b ∷ bs) r) (sym (waits_none r s v g.fits)) ∙ is in
-    elim (one_side (b == 45) (begun (setting_of (b ∷ bs)) r) (named r.command (b ∷ bs) r) (Some next) none) [
-      | inl h ↦ any_option r next s (b ∷ bs) g v room h.1
+    elim (one_side (b == 45) (dashed (flag_of (b ∷ bs)) (b ∷ bs) r) (named r.command (b ∷ bs) r) (Some next) none) [
+      | inl h ↦ any_dashed r next s (b ∷ bs) g v room h.1
       | inr h ↦ any_plain r next s b bs g v room h.0 h.1
     ]
 
@@ -339,7 +440,7 @@ any_value r next us o b bs g is =
 
 pub turned : (r next : Read) (s : At) (w : Text) → Good r s → growing s ≤ usize_max → step w r ≡ Some next → Turned r s w next
 turned r next s [] g room is = absurd (none-some next is)
-turned r next start (b ∷ bs) g room is = any_valued r next start b bs g tt room is
+turned r next (free us) (b ∷ bs) g room is = any_valued r next (free us) b bs g tt room is
 turned r next (one us i v) (b ∷ bs) g room is = any_valued r next (one us i v) b bs g tt room is
 turned r next (many us v vs) (b ∷ bs) g room is = any_valued r next (many us v vs) b bs g tt room is
 turned r next (waits us o) (b ∷ bs) g room is = any_value r next us o b bs g is

@@ -1,15 +1,19 @@
 -- The command that the texts of a plain list are.
-use Rattle.std.specs.Prelude.{ℕ, ◌==◌, ◌^◌, Bool, not, ◌&&◌, ◌||◌, Option, Some, None, is_some, option_map, option_and_then, if◌then◌else◌}
+use Rattle.std.specs.Prelude.{ℕ, ◌==◌, ◌^◌, Bool, true, not, ◌&&◌, ◌||◌, List, [], ◌∷◌, Option, Some, None, is_some, option_map, option_and_then, if◌then◌else◌}
 use Rattle.bs_words.specs.Plain.{Text}
 use Rattle.bs_words.specs.Numbers.{number_from}
 use Rattle.bs_words.specs.Roles.{are_in_roles}
 use Rattle.bs_words.specs.Texts.{Texts}
-use Rattle.bs_words.specs.Verbs.{verb_of, roles_of, has}
+use Rattle.bs_words.specs.Tuning.{is_tuning}
+use Rattle.bs_words.specs.Verbs.{verb_of, roles_of, more_of, has, has_flag}
 use Rattle.bs_words.specs.declared.command.Command.{Command}
 use Rattle.bs_words.specs.declared.command.Numbers.{Numbers}
+use Rattle.bs_words.specs.declared.flag.Flag.{Flag}
+use Rattle.bs_words.specs.declared.flag.Flag.TheVariants.{Spans}
 use Rattle.bs_words.specs.declared.setting.Setting.{Setting}
 use Rattle.bs_words.specs.declared.setting.Setting.TheVariants.{Limit, Workers, Waves, Journal}
 use Rattle.bs_words.specs.declared.verb.Verb.{Verb}
+use Rattle.bs_words.specs.declared.verb.Verb.TheVariants.{Tune}
 
 infixl 10 ◌>>=◌
 abbrev ◌>>=◌ : {A B : Type 0} → Option A → (A → Option B) → Option B
@@ -19,9 +23,23 @@ given >>= next = option_and_then next given
 abbrev pub may_stand : Verb → Setting → Option Text → Bool
 may_stand verb setting value = has verb setting || not (is_some value)
 
+-- and so it is with one that has no value
+abbrev pub flag_may_stand : Verb → Flag → Bool → Bool
+flag_may_stand verb flag stands = has_flag verb flag || not stands
+
 abbrev pub settings_fit : Verb → Texts → Bool
 settings_fit verb texts =
     may_stand verb Limit texts.limit && may_stand verb Workers texts.workers && may_stand verb Waves texts.waves && may_stand verb Journal texts.journal
+    && flag_may_stand verb Spans texts.spans
+
+-- the fraction of `tune` is at most 1
+abbrev pub are_together : Verb → List Text → Bool
+are_together Tune (log ∷ machine ∷ stmt ∷ num ∷ den ∷ []) = is_tuning stmt num den
+are_together _ _ = true
+
+-- the names are as many as the command has, each may stand where it does, and they may stand together
+abbrev pub names_fit : Verb → List Text → Bool
+names_fit verb names = are_in_roles (roles_of verb) (more_of verb) names && are_together verb names
 
 -- the number that an option gives, or what stands for it
 abbrev pub number_or : ℕ → ℕ → ℕ → Option Text → Option ℕ
@@ -44,7 +62,7 @@ numbers_of texts = do
 abbrev pub command_of : Texts → Option Command
 command_of texts = do
   verb ← verb_of texts.command
-  if are_in_roles (roles_of verb) texts.names && settings_fit verb texts
+  if names_fit verb texts.names && settings_fit verb texts
       then (do
         numbers ← numbers_of texts
         Some (record {
@@ -54,5 +72,6 @@ command_of texts = do
           workers = numbers.workers;
           waves = numbers.waves;
           journal = texts.journal;
+          spans = texts.spans;
         }))
       else None

@@ -1,5 +1,5 @@
 -- Which program three words ask to generate.
-use Rattle.std.specs.Prelude.{ℕ, ◌≤◌, Option, option_and_then, option_map}
+use Rattle.std.specs.Prelude.{◌≤◌, Option, option_and_then, option_map}
 use Rattle.bs_gen.specs.Words.{workload_of}
 use Rattle.bs_words.specs.Numbers.{number_from}
 use Rattle.bs_words.specs.Plain.{Text}

@@ -7,5 +7,6 @@ pub mod Numbers
 pub mod Machine
 pub mod Roles
 pub mod Generated
+pub mod Tuning
 pub mod Command
 pub mod Parts

@@ -1,5 +1,5 @@
 -- Which machine a word names.
-use Rattle.std.specs.Prelude.{ℕ, ◌==◌, ◌+◌, ◌^◌, nat_lt, not, List, length, take, drop, take_while, Option, Some, None, if◌then◌else◌, codes}
+use Rattle.std.specs.Prelude.{ℕ, ◌==◌, ◌+◌, ◌^◌, nat_lt, not, length, take, drop, take_while, Option, Some, None, if◌then◌else◌, codes}
 use Rattle.std.specs.Str.{bytes_eq}
 use Rattle.bs_words.specs.Numbers.{number_from}
 use Rattle.bs_words.specs.Plain.{Text}

@@ -1,6 +1,8 @@
 -- The plain lists of words, and what each word of them is.
 use Rattle.std.specs.Prelude.{ℕ, ◌==◌, ◌&&◌, ◌||◌, Bool, true, false, not, List, [], ◌∷◌, ◌++◌, Option, Some, None, is_some, if◌then◌else◌, codes, option_and_then}
 use Rattle.std.specs.Str.{bytes_eq}
+use Rattle.bs_words.specs.declared.flag.Flag.{Flag}
+use Rattle.bs_words.specs.declared.flag.Flag.TheVariants.{Spans}
 use Rattle.bs_words.specs.declared.setting.Setting.{Setting}
 use Rattle.bs_words.specs.declared.setting.Setting.TheVariants.{Limit, Workers, Waves, Journal}
 
@@ -24,6 +26,10 @@ setting_of w =
     else (if bytes_eq w (codes "--waves") then Some Waves
     else (if bytes_eq w (codes "--journal") then Some Journal else None)))
 
+-- the option without a value that a word names
+abbrev pub flag_of : Text → Option Flag
+flag_of w = if bytes_eq w (codes "--spans") then Some Spans else None
+
 -- what was read so far
 pub record Read : Type 0 where
   pub command : Option Text
@@ -32,13 +38,14 @@ pub record Read : Type 0 where
   pub workers : Option Text
   pub waves : Option Text
   pub journal : Option Text
+  pub spans : Bool
   -- the option whose value comes next
   pub waits : Option Setting
   -- an option came after a name
   pub closed : Bool
 
 abbrev pub nothing : Read
-nothing = record { command = None; names = []; limit = None; workers = None; waves = None; journal = None; waits = None; closed = false }
+nothing = record { command = None; names = []; limit = None; workers = None; waves = None; journal = None; spans = false; waits = None; closed = false }
 
 abbrev pub value_of : Setting → Read → Option Text
 value_of Limit r = r.limit
@@ -58,6 +65,21 @@ begun None r = None
 begun (Some o) r = if is_some (value_of o r) then None
     else Some (record r { waits = Some o; closed = r.closed || not (is_empty r.names) })
 
+abbrev pub stands : Flag → Read → Bool
+stands Spans r = r.spans
+
+abbrev pub with_flag : Flag → Read → Read
+with_flag Spans r = record r { spans = true; closed = r.closed || not (is_empty r.names) }
+
+-- an option without a value, which may stand once
+abbrev pub flagged : Flag → Read → Option Read
+flagged f r = if stands f r then None else Some (with_flag f r)
+
+-- a word that begins with a hyphen
+abbrev pub dashed : Option Flag → Text → Read → Option Read
+dashed (Some f) w r = flagged f r
+dashed None w r = begun (setting_of w) r
+
 -- the command, or a name, which may not stand after an option that stands after a name
 abbrev pub named : Option Text → Text → Read → Option Read
 named None w r = Some (record r { command = Some w })
@@ -65,7 +87,7 @@ named (Some c) w r = if r.closed then None else Some (record r { names = r.names
 
 abbrev pub by_waits : Option Setting → Text → Read → Option Read
 by_waits (Some o) w r = if is_dashed w then None else Some (with_value o w r)
-by_waits None w r = if is_dashed w then begun (setting_of w) r else named r.command w r
+by_waits None w r = if is_dashed w then dashed (flag_of w) w r else named r.command w r
 
 -- one more word
 abbrev pub step : Text → Read → Option Read

@@ -1,5 +1,5 @@
--- The texts of a plain list of words: the command, its names, and the values of its options.
-use Rattle.std.specs.Prelude.{List, map, Option, option_map, option_and_then}
+-- The texts of a plain list of words: the command, its names, and its options.
+use Rattle.std.specs.Prelude.{Bool, List, map, Option, option_map, option_and_then}
 use Rattle.bs_words.specs.Plain.{Text, Read, plain}
 use Rattle.bs_words.specs.declared.reading.Reading.{Reading}
 
@@ -10,10 +10,11 @@ pub record Texts : Type 0 where
   pub workers : Option Text
   pub waves : Option Text
   pub journal : Option Text
+  pub spans : Bool
 
 -- the texts of what was read, where there is a command
 abbrev pub texts_in : Read → Option Texts
-texts_in r = option_map (λ c. record { command = c; names = r.names; limit = r.limit; workers = r.workers; waves = r.waves; journal = r.journal }) r.command
+texts_in r = option_map (λ c. record { command = c; names = r.names; limit = r.limit; workers = r.workers; waves = r.waves; journal = r.journal; spans = r.spans }) r.command
 
 -- the texts of a list of words, where it is plain
 abbrev pub plain_texts : List Text → Option Texts
@@ -28,4 +29,5 @@ texts_of reading = record {
   workers = option_map (λ n. n.now) reading.workers;
   waves = option_map (λ n. n.now) reading.waves;
   journal = option_map (λ n. n.now) reading.journal;
+  spans = reading.spans;
 }

@@ -2,7 +2,7 @@
 ghost use Rattle.std.specs.Prelude.{◌≡◌, IfOk, IfErr, IsTrue, is_some, map, string_bytes, false};
 ghost use Rattle.clap.specs.Words.{app_of, rule_of, HasMatchesOf, kind_of};
 ghost use Rattle.clap.specs.declared.error.kind.ErrorKind.TheVariants.{OutOfMemory};
-ghost use Rattle.bs_words.specs.App.{words_app, option_rule, command_rule, names_rule, bare};
+ghost use Rattle.bs_words.specs.App.{words_app, option_rule, flag_rule, command_rule, names_rule, bare};
 ghost use Rattle.bs_words.specs.Plain.{plain};
 
 use clap::{Arg, ArgAction, ArgMatches, Command as Parser, Error};
@@ -21,8 +21,8 @@ pub(crate) fn matches_of_plain<'a>(
     parser.try_get_matches_from(words)
 }
 
-/// A first positional `command`, which is needed, four options with one value each, and a last
-/// positional `names` of any number of words.
+/// A first positional `command`, which is needed, four options with one value each, one without a
+/// value, and a last positional `names` of any number of words.
 pub(crate) fn words_parser<'a>(alloc: Global) -> Result<Parser<'a>, AllocError>
     ensures { IfOk result (λ parser. app_of parser ≡ words_app) }
 {
@@ -31,6 +31,7 @@ pub(crate) fn words_parser<'a>(alloc: Global) -> Result<Parser<'a>, AllocError>
         .arg(option_arg(alloc, "workers"))?
         .arg(option_arg(alloc, "waves"))?
         .arg(option_arg(alloc, "journal"))?
+        .arg(flag_arg(alloc, "spans"))?
         .arg(command_arg(alloc))?
         .arg(names_arg(alloc))
 }
@@ -49,6 +50,13 @@ fn option_arg<'a>(alloc: Global, name: &'a str) -> Arg<'a>
     ensures local { result.global ≡ false }
 {
     Arg::new(alloc, name).long(name)
+}
+
+fn flag_arg<'a>(alloc: Global, name: &'a str) -> Arg<'a>
+    ensures rule { rule_of result ≡ flag_rule name.now }
+    ensures local { result.global ≡ false }
+{
+    Arg::new(alloc, name).long(name).action(ArgAction::SetTrue)
 }
 
 fn command_arg<'a>(alloc: Global) -> Arg<'a>

@@ -1,17 +1,17 @@
 // The command that words are.
 ghost use Rattle.std.specs.Prelude.{◌≡◌, ◌≢◌, ◌&&◌, ◌≤◌, IfOk, IfErr, IfSome, Some, None, map, string_bytes, option_map, option_and_then};
-ghost use Rattle.bs_words.specs.Command.{may_stand, settings_fit, number_or, number_if, numbers_of, command_of};
+ghost use Rattle.bs_words.specs.Command.{may_stand, flag_may_stand, are_together, names_fit, settings_fit, number_or, number_if, numbers_of, command_of};
 ghost use Rattle.bs_words.specs.Parts.{command_in};
-ghost use Rattle.bs_words.specs.Roles.{are_in_roles};
 ghost use Rattle.bs_words.specs.Texts.{texts_of, plain_texts};
-ghost use Rattle.bs_words.specs.Verbs.{roles_of};
 ghost use Rattle.bs_words.specs.declared.fault.WordsFault.TheVariants.{Memory};
 
 use crate::argument::Argument;
 use crate::fault::WordsFault;
+use crate::flag::Flag;
 use crate::reading::{Reading, read_plain};
 use crate::roles::{in_roles, number};
 use crate::setting::Setting;
+use crate::tuning::asked_tuning;
 use crate::verb::{Verb, verb_named};
 use bs_tree::List;
 use std::alloc::{AllocError, Global};
@@ -30,6 +30,8 @@ pub struct Command {
     pub waves: Option<u64>,
     /// The file of the journal; nothing where it isn't given. It stands only with one worker.
     pub journal: Option<Argument>,
+    /// Whether the spans alone are asked for.
+    pub spans: bool,
 }
 
 /// Reads the words of a command line, without the program's own name.
@@ -74,14 +76,34 @@ fn command_from(alloc: Global, reading: &Reading<'_>) -> Result<Command, WordsFa
         workers: numbers.workers,
         waves: numbers.waves,
         journal: argument(alloc, reading.journal)?,
+        spans: reading.spans,
     })
 }
 
 // The command has such names and such options.
 fn suits(verb: Verb, reading: &Reading<'_>) -> bool
-    ensures { result ≡ (are_in_roles (roles_of verb) (texts_of reading.now).names && settings_fit verb (texts_of reading.now)) }
+    ensures { result ≡ (names_fit verb (texts_of reading.now).names && settings_fit verb (texts_of reading.now)) }
 {
-    in_roles(verb.roles(), &reading.names) && has_settings(verb, reading)
+    has_names(verb, &reading.names) && has_settings(verb, reading)
+}
+
+fn has_names(verb: Verb, names: &[&str]) -> bool
+    ensures { result ≡ names_fit verb (map (λ name. name.now) names.now) }
+{
+    in_roles(verb.roles(), verb.more(), names) && stand_together(verb, names)
+}
+
+// What no name says by itself: the fraction of `tune` is at most 1.
+fn stand_together(verb: Verb, names: &[&str]) -> bool
+    ensures { result ≡ are_together verb (map (λ name. name.now) names.now) }
+{
+    match verb {
+        Verb::Tune => match names {
+            [_, _, stmt, num, den] => asked_tuning(stmt, num, den).is_some(),
+            _ => true,
+        },
+        _ => true,
+    }
 }
 
 fn has_settings(verb: Verb, reading: &Reading<'_>) -> bool
@@ -91,12 +113,19 @@ fn has_settings(verb: Verb, reading: &Reading<'_>) -> bool
         && allows(verb, Setting::Workers, reading.workers)
         && allows(verb, Setting::Waves, reading.waves)
         && allows(verb, Setting::Journal, reading.journal)
+        && allows_flag(verb, Flag::Spans, reading.spans)
 }
 
 fn allows(verb: Verb, setting: Setting, value: Option<&str>) -> bool
     ensures { result ≡ may_stand verb setting (option_map (λ n. n.now) value.entry) }
 {
     verb.has(setting) || value.is_none()
+}
+
+fn allows_flag(verb: Verb, flag: Flag, stands: bool) -> bool
+    ensures { result ≡ flag_may_stand verb flag stands }
+{
+    verb.has_flag(flag) || !stands
 }
 
 // The numbers that the options give.

@@ -1,8 +1,9 @@
 // Whether a list of words is plain.
 ghost use Rattle.std.specs.Prelude.{◌≡◌, is_some, map, string_bytes};
-ghost use Rattle.bs_words.specs.Plain.{plain, is_dashed};
-ghost use Rattle.bs_words.specs.Seen.{seen_step, with_seen, has, seen_option, seen_name};
+ghost use Rattle.bs_words.specs.Plain.{plain, is_dashed, flag_of};
+ghost use Rattle.bs_words.specs.Seen.{seen_step, with_seen, has, has_flag, seen_dashed, seen_flag, seen_option, seen_name};
 
+use crate::flag::{Flag, flag_named};
 use crate::setting::{Setting, setting_named};
 
 // What was seen of a list so far.
@@ -14,6 +15,7 @@ pub(crate) struct Seen {
     pub(crate) workers: bool,
     pub(crate) waves: bool,
     pub(crate) journal: bool,
+    pub(crate) spans: bool,
     // The option whose value comes next.
     pub(crate) waits: Option<Setting>,
     // An option came after a name.
@@ -31,6 +33,7 @@ pub(crate) fn is_plain(words: &[String]) -> bool
         workers: false,
         waves: false,
         journal: false,
+        spans: false,
         waits: None,
         closed: false,
     };
@@ -60,7 +63,7 @@ fn step(seen: Seen, word: &str) -> Option<Seen>
         }
         None => {
             if begins_with_hyphen(word) {
-                with_option(setting_named(word), seen)
+                with_dashed(word, seen)
             } else {
                 with_name(seen)
             }
@@ -113,6 +116,39 @@ fn stands(setting: Setting, seen: Seen) -> bool
         Setting::Waves => seen.waves,
         Setting::Journal => seen.journal,
     }
+}
+
+fn with_dashed(word: &str, seen: Seen) -> Option<Seen>
+    ensures { result ≡ seen_dashed (flag_of word.now) word.now seen }
+{
+    match flag_named(word) {
+        Some(flag) => with_flag(flag, seen),
+        None => with_option(setting_named(word), seen),
+    }
+}
+
+fn flag_stands(flag: Flag, seen: Seen) -> bool
+    ensures { result ≡ has_flag flag seen }
+{
+    match flag {
+        Flag::Spans => seen.spans,
+    }
+}
+
+fn with_flag(flag: Flag, seen: Seen) -> Option<Seen>
+    ensures { result ≡ seen_flag flag seen }
+{
+    if flag_stands(flag, seen) {
+        return None;
+    }
+    let closed = seen.closed || seen.names;
+    Some(match flag {
+        Flag::Spans => Seen {
+            spans: true,
+            closed,
+            ..seen
+        },
+    })
 }
 
 fn with_option(setting: Option<Setting>, seen: Seen) -> Option<Seen>

@@ -9,7 +9,8 @@ use crate::plain::is_plain;
 use clap::ArgMatches;
 use std::alloc::{AllocError, Global};
 
-// The command, its names and the values of its options, as they stand in the list.
+// The command, its names and its options, as they stand in the list: the value of each, or whether one without
+// a value stands.
 #[derive(Drop)]
 pub(crate) struct Reading<'a> {
     pub(crate) command: &'a str,
@@ -18,6 +19,7 @@ pub(crate) struct Reading<'a> {
     pub(crate) workers: Option<&'a str>,
     pub(crate) waves: Option<&'a str>,
     pub(crate) journal: Option<&'a str>,
+    pub(crate) spans: bool,
 }
 
 /// Reads a plain list, and gives nothing for any other.
@@ -52,6 +54,7 @@ fn parse<'a>(alloc: Global, words: &'a [String]) -> Result<Reading<'a>, AllocErr
         workers: matches.get_str("workers"),
         waves: matches.get_str("waves"),
         journal: matches.get_str("journal"),
+        spans: matches.get_flag("spans"),
     })
 }
 

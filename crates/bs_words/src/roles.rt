@@ -1,7 +1,8 @@
 // What a name of a command stands for, and which words may.
 ghost use Rattle.std.specs.Prelude.{◌≡◌, ◌≤◌, IfSome, map};
+ghost use Rattle.std.specs.List.{list_all};
 ghost use Rattle.bs_words.specs.Numbers.{number_from};
-ghost use Rattle.bs_words.specs.Roles.{are_in_roles, is_in_role};
+ghost use Rattle.bs_words.specs.Roles.{are_in_roles, is_in_role, is_machine};
 
 use crate::machine::machine_word;
 use bs_gen::Workload;
@@ -19,18 +20,31 @@ pub enum Role {
     Size,
     /// From 0 to 999,999.
     Seed,
+    /// A statement, from 1 to 10,000.
+    Statement,
+    /// A term of a fraction, from 1 to 65,535.
+    Term,
 }
 
-// There are as many names as roles, and each name may stand for its own.
-pub(crate) fn in_roles(roles: &[Role], names: &[&str]) -> bool
-    ensures { result ≡ are_in_roles roles.now (map (λ name. name.now) names.now) }
+// There are as many names as roles, each of which may stand for its own, and behind them up to `more` machines.
+pub(crate) fn in_roles(roles: &[Role], more: usize, names: &[&str]) -> bool
+    ensures { result ≡ are_in_roles roles.now more (map (λ name. name.now) names.now) }
 {
     match roles {
-        [] => names.is_empty(),
+        [] => names.len() <= more && are_machines(names),
         [role, roles @ ..] => match names {
             [] => false,
-            [name, names @ ..] => in_role(*role, name) && in_roles(roles, names),
+            [name, names @ ..] => in_role(*role, name) && in_roles(roles, more, names),
         },
+    }
+}
+
+fn are_machines(names: &[&str]) -> bool
+    ensures { result ≡ list_all is_machine (map (λ name. name.now) names.now) }
+{
+    match names {
+        [] => true,
+        [name, names @ ..] => in_role(Role::Machine, name) && are_machines(names),
     }
 }
 
@@ -43,6 +57,8 @@ fn in_role(role: Role, name: &str) -> bool
         Role::Workload => Workload::named(name).is_some(),
         Role::Size => number(name.as_bytes(), 1, 512).is_some(),
         Role::Seed => number(name.as_bytes(), 0, 999_999).is_some(),
+        Role::Statement => number(name.as_bytes(), 1, 10_000).is_some(),
+        Role::Term => number(name.as_bytes(), 1, 65_535).is_some(),
     }
 }
 

@@ -1,4 +1,4 @@
-// The options of commands.
+// The options with a value.
 ghost use Rattle.std.specs.Prelude.{◌≡◌};
 ghost use Rattle.bs_words.specs.Plain.{setting_of};
 

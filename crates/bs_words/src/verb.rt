@@ -1,7 +1,8 @@
 // The commands, with the names and the options of each.
 ghost use Rattle.std.specs.Prelude.{◌≡◌};
-ghost use Rattle.bs_words.specs.Verbs.{verb_of, roles_of, has};
+ghost use Rattle.bs_words.specs.Verbs.{verb_of, roles_of, more_of, has, has_flag};
 
+use crate::flag::Flag;
 use crate::roles::Role;
 use crate::setting::Setting;
 
@@ -17,6 +18,8 @@ pub enum Verb {
     Chain,
     Gen,
     Trial,
+    Sweep,
+    Tune,
 }
 
 pub(crate) fn verb_named(word: &str) -> Option<Verb>
@@ -32,6 +35,8 @@ pub(crate) fn verb_named(word: &str) -> Option<Verb>
         "chain" => Some(Verb::Chain),
         "gen" => Some(Verb::Gen),
         "trial" => Some(Verb::Trial),
+        "sweep" => Some(Verb::Sweep),
+        "tune" => Some(Verb::Tune),
         _ => None,
     }
 }
@@ -44,10 +49,28 @@ impl Verb {
         match self {
             Verb::Check => &[Role::File],
             Verb::Emulate => &[Role::File, Role::File],
-            Verb::Model | Verb::Predict | Verb::Run | Verb::Trace | Verb::Chain => {
-                &[Role::File, Role::Machine]
-            }
+            Verb::Model | Verb::Predict | Verb::Run | Verb::Trace | Verb::Chain | Verb::Sweep => &[
+                Role::File,
+                Role::Machine,
+            ],
             Verb::Gen | Verb::Trial => &[Role::Workload, Role::Size, Role::Seed],
+            Verb::Tune => &[
+                Role::File,
+                Role::Machine,
+                Role::Statement,
+                Role::Term,
+                Role::Term,
+            ],
+        }
+    }
+
+    // How many machines may stand behind those names.
+    pub(crate) fn more(self) -> usize
+        ensures { result ≡ more_of self }
+    {
+        match self {
+            Verb::Sweep => 31,
+            _ => 0,
         }
     }
 
@@ -63,6 +86,15 @@ impl Verb {
             ),
             Setting::Waves => matches!(self, Verb::Predict | Verb::Run),
             Setting::Journal => matches!(self, Verb::Predict),
+        }
+    }
+
+    // Whether the command has the option without a value.
+    pub(crate) fn has_flag(self, flag: Flag) -> bool
+        ensures { result ≡ has_flag self flag }
+    {
+        match flag {
+            Flag::Spans => matches!(self, Verb::Sweep | Verb::Tune),
         }
     }
 }

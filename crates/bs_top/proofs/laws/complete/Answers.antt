@@ -2,9 +2,9 @@ use Rattle.std.proofs.Common.{◌≡◌, None, Ok, Some}
 use Rattle.bs_top.specs.Answer.{answer_of}
 use Rattle.bs_top.specs.commands.Check.{printed}
 use Rattle.bs_top.specs.commands.Gen.{generated}
-use Rattle.bs_top.specs.Complete.{IsJournaled, IsPredicted, IsChained, IsReported, IsTraced, IsTried, logged_in}
-use Rattle.bs_top.specs.Words.{check, model, emulate, run, predict, trace, chain, gen, trial}
-use Rattle.bs_top.proofs.Completing.{chains, checks, emulates, ends, journals, predicts, reports, reports_run, traces}
+use Rattle.bs_top.specs.Complete.{IsJournaled, IsPredicted, IsChained, IsReported, IsSwept, IsTraced, IsTried, IsTuned, logged_in}
+use Rattle.bs_top.specs.Words.{check, model, emulate, run, predict, trace, chain, sweep, tune, gen, trial}
+use Rattle.bs_top.proofs.Completing.{chains, checks, emulates, ends, journals, predicts, reports, reports_run, sweeps, traces, tunes}
 use Rattle.bs_top.proofs.CompletingTrials.{gens, tries}
 use Rattle.bs_top.proofs.laws.complete.Goals as goal
 
@@ -63,6 +63,20 @@ returns-clause-chain c files name word kept m a = chains files c.known.ensures n
 pub returns-clause-chains : goal.returns-clause-chains
 returns-clause-chains c files name word kept m old new s can =
     ends files (Some (chain name word)) (IsChained kept m) (λ a is. returns-clause-chain c files name word kept m a can is) old new s
+
+pub returns-clause-sweep : goal.returns-clause-sweep
+returns-clause-sweep c files name words spans kept ms a = sweeps files c.known.ensures name words spans kept ms a
+
+pub returns-clause-sweeps : goal.returns-clause-sweeps
+returns-clause-sweeps c files name words spans kept ms old new s can =
+    ends files (Some (sweep name words spans)) (IsSwept spans kept ms) (λ a is. returns-clause-sweep c files name words spans kept ms a can is) old new s
+
+pub returns-clause-tune : goal.returns-clause-tune
+returns-clause-tune c files name word tuning spans kept m a = tunes files c.known.ensures name word tuning spans kept m a
+
+pub returns-clause-tunes : goal.returns-clause-tunes
+returns-clause-tunes c files name word tuning spans kept m old new s can =
+    ends files (Some (tune name word tuning spans)) (IsTuned tuning spans kept m) (λ a is. returns-clause-tune c files name word tuning spans kept m a can is) old new s
 
 pub returns-clause-generate : goal.returns-clause-generate
 returns-clause-generate c files program a = gens files c.known.ensures program a

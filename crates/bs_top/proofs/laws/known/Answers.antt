@@ -20,6 +20,10 @@ returns c = record {
     either = c.one_settling.ensures.either;
     noting = c.one_noting.ensures.one;
     chain = c.one_chain.ensures.one;
+    points = c.one_sweep.ensures.one;
+    spans = c.one_sweep.ensures.one_spans;
+    tuned_points = c.one_tuning.ensures.one;
+    tuned_spans = c.one_tuning.ensures.one_spans;
     outcome = c.one_outcome.ensures;
   };
 }

@@ -77,6 +77,20 @@ returns-in-Some-Chain-clause-told g c =
     subst (λ q. IfSome (g.D.Desk.world c.args.desk.now).files (λ files. Told said_of (reply_to files q) c.chain.result))
     (sym (is ∙ ap (λ a. Some (asked_of a)) c.in-Some-Chain.field-0-is)) c.chain.ensures.told
 
+pub returns-in-Some-Sweep-clause-told : goal.returns-in-Some-Sweep-clause-told
+returns-in-Some-Sweep-clause-told g c =
+    let words = map string_bytes c.args.words.now in
+    let is = asked_is (command_in words) c.in_ok-command.command c.built.result c.in-Some-Sweep.field-0 c.in_ok-command.ensures.ok c.built.ensures.value c.in-Some-Sweep.is in
+    subst (λ q. IfSome (g.D.Desk.world c.args.desk.now).files (λ files. Told said_of (reply_to files q) c.sweep.result))
+    (sym (is ∙ ap (λ a. Some (asked_of a)) c.in-Some-Sweep.field-0-is)) c.sweep.ensures.told
+
+pub returns-in-Some-Tune-clause-told : goal.returns-in-Some-Tune-clause-told
+returns-in-Some-Tune-clause-told g c =
+    let words = map string_bytes c.args.words.now in
+    let is = asked_is (command_in words) c.in_ok-command.command c.built.result c.in-Some-Tune.field-0 c.in_ok-command.ensures.ok c.built.ensures.value c.in-Some-Tune.is in
+    subst (λ q. IfSome (g.D.Desk.world c.args.desk.now).files (λ files. Told said_of (reply_to files q) c.tune.result))
+    (sym (is ∙ ap (λ a. Some (asked_of a)) c.in-Some-Tune.field-0-is)) c.tune.ensures.told
+
 pub returns-in-Some-Check-clause-cause : goal.returns-in-Some-Check-clause-cause
 returns-in-Some-Check-clause-cause g c =
     let words = map string_bytes c.args.words.now in
@@ -139,6 +153,24 @@ returns-in-Some-Chain-clause-cause g c =
     let new = g.D.Desk.world c.chain.new.desk in
     let kind = subst (λ a. ReadsLogs (asked_of a)) (sym c.in-Some-Chain.field-0-is) (tt {0}) in
     subst (λ q. ReplyCause q old new c.chain.result) (sym is) (log_cause old new (asked_of c.in-Some-Chain.field-0) kind c.chain.result c.chain.ensures.cause)
+
+pub returns-in-Some-Sweep-clause-cause : goal.returns-in-Some-Sweep-clause-cause
+returns-in-Some-Sweep-clause-cause g c =
+    let words = map string_bytes c.args.words.now in
+    let is = asked_is (command_in words) c.in_ok-command.command c.built.result c.in-Some-Sweep.field-0 c.in_ok-command.ensures.ok c.built.ensures.value c.in-Some-Sweep.is in
+    let old = g.D.Desk.world c.args.desk.now in
+    let new = g.D.Desk.world c.sweep.new.desk in
+    let kind = subst (λ a. ReadsLogs (asked_of a)) (sym c.in-Some-Sweep.field-0-is) (tt {0}) in
+    subst (λ q. ReplyCause q old new c.sweep.result) (sym is) (log_cause old new (asked_of c.in-Some-Sweep.field-0) kind c.sweep.result c.sweep.ensures.cause)
+
+pub returns-in-Some-Tune-clause-cause : goal.returns-in-Some-Tune-clause-cause
+returns-in-Some-Tune-clause-cause g c =
+    let words = map string_bytes c.args.words.now in
+    let is = asked_is (command_in words) c.in_ok-command.command c.built.result c.in-Some-Tune.field-0 c.in_ok-command.ensures.ok c.built.ensures.value c.in-Some-Tune.is in
+    let old = g.D.Desk.world c.args.desk.now in
+    let new = g.D.Desk.world c.tune.new.desk in
+    let kind = subst (λ a. ReadsLogs (asked_of a)) (sym c.in-Some-Tune.field-0-is) (tt {0}) in
+    subst (λ q. ReplyCause q old new c.tune.result) (sym is) (log_cause old new (asked_of c.in-Some-Tune.field-0) kind c.tune.result c.tune.ensures.cause)
 
 pub returns-in-Some-Gen-clause-told : goal.returns-in-Some-Gen-clause-told
 returns-in-Some-Gen-clause-told g c =

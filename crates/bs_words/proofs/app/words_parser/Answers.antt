@@ -9,5 +9,6 @@ returns c =
     let two = c.in_ok-arg-2.ensures.shape c.option_arg-2.ensures.local ∙ ap₂ with_rule one c.option_arg-2.ensures.rule in
     let three = c.in_ok-arg-3.ensures.shape c.option_arg-3.ensures.local ∙ ap₂ with_rule two c.option_arg-3.ensures.rule in
     let four = c.in_ok-arg-4.ensures.shape c.option_arg-4.ensures.local ∙ ap₂ with_rule three c.option_arg-4.ensures.rule in
-    let five = c.in_ok-arg-5.ensures.shape c.command_arg.ensures.local ∙ ap₂ with_rule four c.command_arg.ensures.rule in
-    IfOk-weaker c.arg-6.result _ _ (λ r h. h.shape c.names_arg.ensures.local ∙ ap₂ with_rule five c.names_arg.ensures.rule) c.arg-6.ensures
+    let five = c.in_ok-arg-5.ensures.shape c.flag_arg.ensures.local ∙ ap₂ with_rule four c.flag_arg.ensures.rule in
+    let six = c.in_ok-arg-6.ensures.shape c.command_arg.ensures.local ∙ ap₂ with_rule five c.command_arg.ensures.rule in
+    IfOk-weaker c.arg-7.result _ _ (λ r h. h.shape c.names_arg.ensures.local ∙ ap₂ with_rule six c.names_arg.ensures.rule) c.arg-7.ensures
